@@ -1,0 +1,2 @@
+-- The worked cases, which hold the definitions to the paper.
+pub mod Worked

@@ -1,0 +1,137 @@
+-- Document 01, "Worked table and its neighbours": P1 to P12 as rows of one table. The checker computes both columns. Assumes nothing.
+use mathlib.Core.Path.{_≡_, refl}
+use mathlib.Core.List.{List, [], _∷_, map}
+use Prim.Native.Nat.{ℕ, _+_, _*_}
+use Rattle.model.specs.Numbers.{one, tabulate, cell, at}
+use Rattle.model.specs.Table.{Table, absorption, inputCoefficient, valueAddedCoefficient, importCoefficient, domesticCoefficient, domesticDemand}
+use Rattle.model.specs.Rounds.{weighted, intermediate, round, rounds, changes, settling, settled, implied}
+use Rattle.model.specs.Multipliers.{unit, inverse, inverseRounds, dispersion}
+use Rattle.model.specs.Checks.{Report, accepts, refuses, output}
+use Rattle.model.specs.Calls.{coefficientsReport, inputCoefficients, valueAddedCoefficients, importCoefficients, domesticCoefficients, domesticDemands, productionReport, production, priceReport, price, impliedReport, impliedDemand, inverseReport, powerOfDispersion, sensitivityOfDispersion}
+
+-- what a call says, and its output slices after it
+pub record Result : Type 0 where
+  pub said : Report
+  pub outputs : List (List ℕ)
+
+-- what the definitions give, and what the paper says
+pub record Row : Type 0 where
+  pub given : Result
+  pub stated : Result
+
+-- ---- the calls, each lent slices of the right lengths
+abbrev coefficientsOf : Table → Result
+coefficientsOf t =
+    let n = t .sectors in
+    let r = coefficientsReport t (n * n ∷ n * n ∷ []) (n ∷ n ∷ n ∷ []) in
+    record {
+      said = r;
+      outputs =
+          output r (n * n) (inputCoefficients t)
+          ∷ output r n (valueAddedCoefficients t)
+          ∷ output r n (importCoefficients t)
+          ∷ output r (n * n) (domesticCoefficients t)
+          ∷ output r n (domesticDemands t)
+          ∷ [];
+    }
+
+module _ (n : ℕ) (d : List ℕ) where
+  abbrev productionOf : List ℕ → ℕ → Result
+  productionOf f budget =
+      let r = productionReport n d f budget (n ∷ n ∷ []) in
+      record { said = r; outputs = output r n (production n d f budget) ∷ [] }
+
+  abbrev priceOf : List ℕ → ℕ → Result
+  priceOf w budget =
+      let r = priceReport n d w budget (n ∷ n ∷ []) in
+      record { said = r; outputs = output r n (price n d w budget) ∷ [] }
+
+  abbrev impliedOf : List ℕ → Result
+  impliedOf y =
+      let r = impliedReport n d y (n ∷ []) in
+      record { said = r; outputs = output r n (impliedDemand n d y) ∷ [] }
+
+  abbrev inverseOf : ℕ → Result
+  inverseOf budget =
+      let r = inverseReport n d budget (n * n ∷ []) (n ∷ n ∷ []) in
+      record {
+        said = r;
+        outputs =
+            output r (n * n) (inverse n d budget)
+            ∷ output r n (powerOfDispersion n d budget)
+            ∷ output r n (sensitivityOfDispersion n d budget)
+            ∷ [];
+      }
+
+  -- the two sides of an exact balance b / q over a start s
+  abbrev pub leftSide : List ℕ → List ℕ
+  leftSide b = tabulate n (λ i. one * cell b i)
+
+  abbrev pub rightSide : List ℕ → ℕ → List ℕ → List ℕ
+  rightSide s q b = tabulate n (λ i. one * q * cell s i + weighted n (at n d) (cell b) i)
+
+infix 68 _⊳_ _⊢_ _⊣_
+abbrev _⊳_ : Result → Result → Row
+g ⊳ s = record { given = g; stated = s }
+
+-- an acceptance with k rounds, and a refusal
+abbrev _⊢_ : ℕ → List (List ℕ) → Result
+k ⊢ cells = record { said = accepts k; outputs = cells }
+
+abbrev _⊣_ : Report → List (List ℕ) → Result
+r ⊣ cells = record { said = r; outputs = cells }
+
+-- 1 × b is an exact balance of the start s: its two sides are equal
+abbrev balance : ℕ → List ℕ → List ℕ → List ℕ → Row
+balance n d s b = (0 ⊢ (leftSide n d b ∷ [])) ⊳ (0 ⊢ (rightSide n d s 1 b ∷ []))
+
+-- ---- the worked table
+abbrev table : Table
+table =
+    record {
+      sectors = 2;
+      flows = 100 ∷ 400 ∷ 300 ∷ 600 ∷ [];
+      finalDemand = 500 ∷ 900 ∷ [];
+      exports = 250 ∷ 560 ∷ [];
+      imports = 250 ∷ 360 ∷ [];
+      valueAdded = 600 ∷ 1000 ∷ [];
+      production = 1000 ∷ 2000 ∷ [];
+    }
+
+abbrev pub d : List ℕ
+d = 75000 ∷ 150000 ∷ 240000 ∷ 240000 ∷ []
+
+abbrev pub f : List ℕ
+f = 625 ∷ 1280 ∷ []
+
+unfoldable pub rows : List Row
+rows =
+    -- P1: accepted, with a, v, m, d and f
+    coefficientsOf table
+    ⊳ (0 ⊢ ((100000 ∷ 200000 ∷ 300000 ∷ 300000 ∷ []) ∷ (600000 ∷ 500000 ∷ []) ∷ (250000 ∷ 200000 ∷ []) ∷ d ∷ f ∷ []))
+    -- P2, at the least budget and at the largest, and its exact balance; P3
+    ∷ productionOf 2 d f 9 ⊳ (9 ⊢ ((999 ∷ 1999 ∷ []) ∷ []))
+    ∷ productionOf 2 d f 4294967295 ⊳ (9 ⊢ ((999 ∷ 1999 ∷ []) ∷ []))
+    ∷ balance 2 d f (1000 ∷ 2000 ∷ [])
+    ∷ productionOf 2 d f 8 ⊳ (refuses 9 0 ⊣ ((0 ∷ 0 ∷ []) ∷ []))
+    -- P4 to P6
+    ∷ impliedOf 2 d (999 ∷ 1999 ∷ []) ⊳ (0 ⊢ (f ∷ []))
+    ∷ impliedOf 2 d (1000 ∷ 2000 ∷ []) ⊳ (0 ⊢ (f ∷ []))
+    ∷ impliedOf 2 d (0 ∷ 1000 ∷ []) ⊳ (refuses 10 0 ⊣ ((0 ∷ 0 ∷ []) ∷ []))
+    -- P7
+    ∷ priceOf 2 d (10000 ∷ 0 ∷ []) 4294967295 ⊳ (10 ⊢ ((11393 ∷ 2248 ∷ []) ∷ []))
+    -- P8 and its exact balance; P9; P10
+    ∷ productionOf 1 (950000 ∷ []) (1 ∷ []) 4294967295 ⊳ (1 ⊢ ((1 ∷ []) ∷ []))
+    ∷ balance 1 (950000 ∷ []) (1 ∷ []) (20 ∷ [])
+    ∷ productionOf 1 (950001 ∷ []) (1 ∷ []) 4294967295 ⊳ (refuses 7 0 ⊣ ((0 ∷ []) ∷ []))
+    ∷ productionOf 2 d (0 ∷ 0 ∷ []) 4294967295 ⊳ (1 ⊢ ((0 ∷ 0 ∷ []) ∷ []))
+    -- P11
+    ∷ productionOf 0 [] [] 4294967295 ⊳ (refuses 1 0 ⊣ ([] ∷ []))
+    ∷ productionOf 41 [] [] 4294967295 ⊳ (refuses 1 0 ⊣ (tabulate 41 (λ _. 0) ∷ []))
+    -- P12: the inverse cell, its influence and its sensitivity
+    ∷ inverseOf 1 (500000 ∷ []) 4294967295 ⊳ (21 ⊢ ((1999999 ∷ []) ∷ (1000000 ∷ []) ∷ (1000000 ∷ []) ∷ []))
+    ∷ []
+
+pub worked : map (λ (r : Row). r .given) rows ≡ map (λ (r : Row). r .stated) rows
+unfolding rows coefficientsReport inputCoefficients valueAddedCoefficients importCoefficients domesticCoefficients domesticDemands productionReport production priceReport price impliedReport impliedDemand inverseReport powerOfDispersion sensitivityOfDispersion absorption inputCoefficient valueAddedCoefficient importCoefficient domesticCoefficient domesticDemand intermediate round rounds changes settling settled implied unit inverse inverseRounds dispersion
+worked = refl

@@ -1,0 +1,140 @@
+-- Document 01, "Questions a call asks, in this order". A check is a test at each of its places.
+use mathlib.Core.Bool.{Bool, true, false, _&&_, cond}
+use mathlib.Core.List.{List, [], _∷_, _++_}
+use Prim.Native.Nat.{ℕ, suc, _+_, _*_}
+use lib.Dec.{eqb, leb, ltb}
+use lib.ListN.{length, replicate}
+use Rattle.model.specs.Numbers.{one, sum, first, all, cell, at, transposed}
+use Rattle.model.specs.Table.{Table, flow, absorption, domesticCoefficient}
+use Rattle.model.specs.Rounds.{intermediate, settling}
+use Rattle.model.specs.Multipliers.{unit}
+use Rattle.model.specs.declared.Answer.{Answer}
+use Rattle.model.specs.declared.Answer.the-variants.{Accepted, Refused}
+use Rattle.model.specs.declared.Outcome.{Outcome}
+use Rattle.model.specs.declared.Outcome.the-variants.{Settled, Refused as Outcome·Refused}
+
+-- An answer in the paper's numbers: its number, its place and its count of rounds, which is 0 where a call has none
+pub record Report : Type 0 where
+  pub accepted : Bool
+  pub number : ℕ
+  pub place : ℕ
+  pub rounds : ℕ
+
+-- acceptance has number 0 and place 0; a refusal has 0 for every other number of its answer
+abbrev pub accepts : ℕ → Report
+accepts k = record { accepted = true; number = 0; place = 0; rounds = k }
+
+abbrev pub refuses : ℕ → ℕ → Report
+refuses q p = record { accepted = false; number = q; place = p; rounds = 0 }
+
+-- what the calls' answers say, case by case
+abbrev pub report : Answer → Report
+report Accepted = accepts 0
+report (Refused q p) = refuses q p
+
+abbrev pub reportRounds : Outcome → Report
+reportRounds (Settled k) = accepts k
+reportRounds (Outcome·Refused q p) = refuses q p
+
+pub record Check : Type 0 where
+  pub number : ℕ
+  pub places : ℕ
+  pub passes : ℕ → Bool
+
+-- The first check that fails gives its number and its first failing place; where none fails the call is accepted, with k rounds
+abbrev pub verdict : List Check → ℕ → Report
+verdict [] k = accepts k
+verdict (q ∷ qs) k =
+    let place = first (q .places) (q .passes) in
+    elim (ltb place (q .places)) [ true ↦ refuses (q .number) place | false ↦ verdict qs k ]
+
+-- What a call leaves in an output slice: the result, or 0 in every cell, whatever the slice's length
+abbrev pub output : Report → ℕ → List ℕ → List ℕ
+output r len result = elim (r .accepted) [ true ↦ result | false ↦ replicate len 0 ]
+
+-- a check whose place is always 0
+abbrev pub single : ℕ → Bool → Check
+single k b = record { number = k; places = 1; passes = λ _. b }
+
+abbrev pub within : ℕ → List ℕ → ℕ → Bool
+within limit xs i = leb (cell xs i) limit
+
+-- 1. n is from 1 to 40
+abbrev pub size : ℕ → Check
+size n = single 1 (leb 1 n && leb n 40)
+
+-- 2. every lent slice has its exact length: n × n for these matrices, n for these columns
+abbrev pub lengths : ℕ → List ℕ → List ℕ → Check
+lengths n matrices columns = single 2 (all (eqb (n * n)) matrices && all (eqb n) columns)
+
+-- 3. every amount is within 1,000,000,000, of a table in x, F, E, M, V, X
+abbrev pub tableAmounts : Table → Check
+tableAmounts t =
+    let cells = t .flows ++ t .finalDemand ++ t .exports ++ t .imports ++ t .valueAdded ++ t .production in
+    record { number = 3; places = length cells; passes = within 1000000000 cells }
+
+-- and every share within one: for induced amounts in a, m, v, then F
+abbrev pub inducedAmounts : List ℕ → List ℕ → List ℕ → List ℕ → Check
+inducedAmounts a m v F =
+    let shares = a ++ m ++ v in
+    let cells = shares ++ F in
+    record {
+      number = 3;
+      places = length cells;
+      passes = λ i. within (cond (ltb i (length shares)) one 1000000000) cells i;
+    }
+
+module _ (t : Table) where
+  -- 4. every column balances
+  abbrev pub columnBalances : Check
+  columnBalances =
+      record {
+        number = 4;
+        places = t .sectors;
+        passes = λ j. eqb (sum (t .sectors) (transposed (flow t) j) + cell (t .valueAdded) j) (cell (t .production) j);
+      }
+
+  -- 5. every row balances
+  abbrev pub rowBalances : Check
+  rowBalances =
+      record {
+        number = 5;
+        places = t .sectors;
+        passes = λ i.
+            eqb (sum (t .sectors) (flow t i) + (cell (t .finalDemand) i + cell (t .exports) i))
+            (cell (t .production) i + cell (t .imports) i);
+      }
+
+  -- 6. a sector's imports are at most its domestic need
+  abbrev pub importsCovered : Check
+  importsCovered =
+      record { number = 6; places = t .sectors; passes = λ i. leb (cell (t .imports) i) (absorption t i) }
+
+-- 7. every column sum of domestic coefficients is at most 950,000
+abbrev pub columnSums : ℕ → (ℕ → ℕ → ℕ) → Check
+columnSums n c = record { number = 7; places = n; passes = λ j. leb (sum n (transposed c j)) 950000 }
+
+-- 8. every demand for domestic goods, or every direct rise, is at most its limit
+abbrev pub starts : ℕ → ℕ → List ℕ → Check
+starts n limit s = record { number = 8; places = n; passes = within limit s }
+
+abbrev pub demandLimit : ℕ
+demandLimit = 2000000000
+
+abbrev pub riseLimit : ℕ
+riseLimit = 1000000000
+
+-- and the total of a given production is at most 1,600,000,000,000: the running total up to and with sector i
+abbrev pub productionTotal : ℕ → List ℕ → Check
+productionTotal n y = record { number = 8; places = n; passes = λ i. leb (sum (suc i) (cell y)) 1600000000000 }
+
+-- 9. the rounds settle within the budget; of the inverse, those of every column
+abbrev pub settles : ℕ → (ℕ → ℕ → ℕ) → List ℕ → ℕ → Bool
+settles n c s budget = leb (settling n c s budget) budget
+
+abbrev pub columnsSettle : ℕ → List ℕ → ℕ → Check
+columnsSettle n d budget = record { number = 9; places = n; passes = λ j. settles n (at n d) (unit n j) budget }
+
+-- 10. a given production leaves every sector's demand at 0 or above
+abbrev pub demandLeft : ℕ → (ℕ → ℕ → ℕ) → List ℕ → Check
+demandLeft n c y = record { number = 10; places = n; passes = λ i. leb (intermediate n c (cell y) i) (cell y i) }

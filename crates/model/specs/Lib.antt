@@ -1,0 +1,8 @@
+-- The definitions of document 01, in its order.
+pub mod Numbers
+pub mod Table
+pub mod Rounds
+pub mod Multipliers
+pub mod Checks
+pub mod Calls
+pub mod Promises

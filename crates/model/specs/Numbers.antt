@@ -1,0 +1,56 @@
+-- Sums, lists made by a rule, and matrices. Numbers are whole, 0 or above, without an upper limit; a slice is the list of its cells.
+use mathlib.Core.Bool.{Bool, true, false, _&&_}
+use mathlib.Core.List.{List, [], _∷_}
+use Prim.Native.Nat.{ℕ, zero, suc, _+_, _*_, _/_, _%_, max}
+use lib.Dec.{eqb}
+use lib.ListN.{getD}
+
+-- "One", the unit of shares and coefficients: they are whole millionths
+abbrev pub one : ℕ
+one = 1000000
+
+-- f 0 + .. + f (n - 1)
+abbrev pub sum : ℕ → (ℕ → ℕ) → ℕ
+sum zero f = 0
+sum (suc n) f = sum n f + f n
+
+-- the largest of f 0, .., f (n - 1); 0 where there is none
+abbrev pub largest : ℕ → (ℕ → ℕ) → ℕ
+largest zero f = 0
+largest (suc n) f = max (largest n f) (f n)
+
+-- the least i below n at which the test p fails; n where it passes at all of them
+abbrev pub first : ℕ → (ℕ → Bool) → ℕ
+first zero p = 0
+first (suc n) p = elim (p 0) [ true ↦ suc (first n (λ i. p (suc i))) | false ↦ 0 ]
+
+-- the test passes at every number of a list
+abbrev pub all : (ℕ → Bool) → List ℕ → Bool
+all p [] = true
+all p (x ∷ xs) = p x && all p xs
+
+-- f 0, .., f (n - 1)
+abbrev pub tabulate : ℕ → (ℕ → ℕ) → List ℕ
+tabulate zero f = []
+tabulate (suc n) f = f 0 ∷ tabulate n (λ i. f (suc i))
+
+-- the number at place i of a list; 0 past its end
+abbrev pub cell : List ℕ → ℕ → ℕ
+cell xs i = getD xs i 0
+
+-- two columns are the same in every sector
+abbrev pub same : ℕ → List ℕ → List ℕ → Bool
+same zero a b = true
+same (suc n) a b = same n a b && eqb (cell a n) (cell b n)
+
+-- n rows of n cells, row by row, as a function of row and column
+abbrev pub at : ℕ → List ℕ → ℕ → ℕ → ℕ
+at n d i j = cell d (i * n + j)
+
+-- and such a function as n rows of n cells
+abbrev pub matrix : ℕ → (ℕ → ℕ → ℕ) → List ℕ
+matrix n c = tabulate (n * n) (λ k. c (k / n) (k % n))
+
+-- rows and columns exchanged
+abbrev pub transposed : (ℕ → ℕ → ℕ) → ℕ → ℕ → ℕ
+transposed c i j = c j i

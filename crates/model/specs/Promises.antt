@@ -1,0 +1,39 @@
+-- What demands 2 and 3 promise of an accepted result. Proved in `theory`, and carried by the calls' own contracts.
+use mathlib.Core.Path.{_≡_}
+use mathlib.Core.Logic.{_↔_}
+use mathlib.Core.List.{List}
+use Prim.Native.Nat.{ℕ, _*_, _≤_, _<_}
+use lib.ListN.{length}
+use Rattle.model.specs.Numbers.{sum, cell, at, transposed}
+use Rattle.model.specs.Rounds.{Settles, ExactBalance, shortfall}
+
+-- A domestic sheet is accepted: n from 1 to 40, n × n cells, question 7 answered yes
+pub record AcceptedMatrix (n : ℕ) (d : List ℕ) : Type 0 where
+  pub some : 1 ≤ n
+  pub few : n ≤ 40
+  pub cells : length d ≡ n * n
+  pub low : (j : ℕ) → j < n → sum n (transposed (at n d) j) ≤ 950000
+
+-- equal in every sector
+abbrev pub Equal : ℕ → List ℕ → List ℕ → Type 0
+Equal n a b = (i : ℕ) → i < n → cell a i ≡ cell b i
+
+-- Demand 3, first half, of the production y of a demand f: against every demand g that settles, with production z
+abbrev pub Distinguishes : ℕ → List ℕ → List ℕ → List ℕ → Type 0
+Distinguishes n d f y = (g z : List ℕ) (k : ℕ) → Settles n (at n d) g k z → Equal n y z ↔ Equal n f g
+
+-- Demand 3, second half: against every exact balance y is nowhere too high, and all sectors together lack less than 20 × n
+pub record NearBalance (n : ℕ) (d f y : List ℕ) (q : ℕ) (b : ℕ → ℕ) : Type 0 where
+  pub nowhereTooHigh : (i : ℕ) → i < n → q * cell y i ≤ b i
+  pub together : sum n (shortfall q b y) < 20 * q * n
+
+abbrev pub Accurate : ℕ → List ℕ → List ℕ → List ℕ → Type 0
+Accurate n d f y = (q : ℕ) (b : ℕ → ℕ) → ExactBalance n (at n d) f q b → NearBalance n d f y q b
+
+-- Prices: nowhere above an exact balance of the column direction, and in each sector less than 20 millionths below it
+pub record NearPrices (n : ℕ) (r : List ℕ) (q : ℕ) (b : ℕ → ℕ) : Type 0 where
+  pub nowhereAbove : (i : ℕ) → i < n → q * cell r i ≤ b i
+  pub each : (i : ℕ) → i < n → shortfall q b r i < 20 * q
+
+abbrev pub AccuratePrices : ℕ → List ℕ → List ℕ → List ℕ → Type 0
+AccuratePrices n d w r = (q : ℕ) (b : ℕ → ℕ) → ExactBalance n (transposed (at n d)) w q b → NearPrices n r q b

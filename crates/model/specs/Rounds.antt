@@ -1,0 +1,68 @@
+-- Document 01, "Rounds". A coefficient function c gives the direction of a domestic matrix d: production reads `at n d`, prices read
+-- `transposed (at n d)`. The start s is a demand for domestic goods, or a direct rise.
+use mathlib.Core.Path.{_≡_}
+use mathlib.Core.Bool.{Bool, true, false, not}
+use mathlib.Core.List.{List}
+use Prim.Native.Nat.{ℕ, zero, suc, _+_, _*_, _-_, _/_, _≤_, _<_}
+use Rattle.model.specs.Numbers.{one, sum, first, tabulate, cell, same}
+use Rattle.model.specs.Table.{portion}
+
+-- c(i,j) × amount(j)
+abbrev pub product : (ℕ → ℕ → ℕ) → (ℕ → ℕ) → ℕ → ℕ → ℕ
+product c a i j = c i j * a j
+
+-- the sum over j of c(i,j) × amount(j)
+abbrev pub weighted : ℕ → (ℕ → ℕ → ℕ) → (ℕ → ℕ) → ℕ → ℕ
+weighted n c a i = sum n (product c a i)
+
+-- What industry takes, or what is passed on: the whole sum divided once by one
+unfoldable pub intermediate : ℕ → (ℕ → ℕ → ℕ) → (ℕ → ℕ) → ℕ → ℕ
+intermediate n c a i = weighted n c a i / one
+
+-- A round: every sector uses the amounts y of the round before
+unfoldable pub round : ℕ → (ℕ → ℕ → ℕ) → List ℕ → List ℕ → List ℕ
+round n c s y = tabulate n (λ i. cell s i + intermediate n c (cell y) i)
+
+-- the amounts after k rounds; the start is s itself
+unfoldable pub rounds : ℕ → (ℕ → ℕ → ℕ) → List ℕ → ℕ → List ℕ
+rounds n c s zero = s
+rounds n c s (suc k) = round n c s (rounds n c s k)
+
+-- round k changes a sector. Rounds are counted from 1, and where there is no round nothing has settled
+unfoldable pub changes : ℕ → (ℕ → ℕ → ℕ) → List ℕ → ℕ → Bool
+changes n c s zero = true
+changes n c s (suc k) = not (same n (rounds n c s (suc k)) (rounds n c s k))
+
+-- The count of rounds: the least k whose round changes no sector, if it is within the budget; else the budget and 1
+unfoldable pub settling : ℕ → (ℕ → ℕ → ℕ) → List ℕ → ℕ → ℕ
+settling n c s budget = first (suc budget) (changes n c s)
+
+-- the amounts after that round: the settled production, or price rise
+unfoldable pub settled : ℕ → (ℕ → ℕ → ℕ) → List ℕ → ℕ → List ℕ
+settled n c s budget = rounds n c s (settling n c s budget)
+
+-- A start settles, without a budget: round k is the first that changes no sector, and y is the amounts after it
+pub record Settles (n : ℕ) (c : ℕ → ℕ → ℕ) (s : List ℕ) (k : ℕ) (y : List ℕ) : Type 0 where
+  pub unchanged : changes n c s k ≡ false
+  pub earlier : (j : ℕ) → j < k → changes n c s j ≡ true
+  pub amounts : y ≡ rounds n c s k
+
+-- An exact balance over a start: it stands for the amounts b(i) / q
+pub record ExactBalance (n : ℕ) (c : ℕ → ℕ → ℕ) (s : List ℕ) (q : ℕ) (b : ℕ → ℕ) : Type 0 where
+  pub divisor : 1 ≤ q
+  pub balance : (i : ℕ) → i < n → one * b i ≡ one * q * cell s i + weighted n c b i
+
+-- what sector i of the amounts y lacks against it
+abbrev pub shortfall : ℕ → (ℕ → ℕ) → List ℕ → ℕ → ℕ
+shortfall q b y i = b i - q * cell y i
+
+-- Backwards: the demand behind a production
+unfoldable pub implied : ℕ → (ℕ → ℕ → ℕ) → List ℕ → List ℕ
+implied n c y = tabulate n (λ i. cell y i - intermediate n c (cell y) i)
+
+-- Induced value added of sector j, and induced imports of sector i, at a production y
+unfoldable pub inducedValueAdded : List ℕ → List ℕ → ℕ → ℕ
+inducedValueAdded v y j = portion (cell v j) (cell y j)
+
+unfoldable pub inducedImports : ℕ → (ℕ → ℕ → ℕ) → List ℕ → List ℕ → List ℕ → ℕ → ℕ
+inducedImports n a m F y i = portion (cell m i) (intermediate n a (cell y) i + cell F i)

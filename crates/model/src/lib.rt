@@ -1,0 +1,13 @@
+// The answers of the public calls. Their meaning, and every other definition of document 01, stands in specs/.
+
+// A call without a count: accepted, or the number and the place of the first check that fails.
+pub enum Answer {
+    Accepted,
+    Refused { number: u8, place: usize },
+}
+
+// A call that works in rounds: how many it took, or the number and the place of the first check that fails.
+pub enum Outcome {
+    Settled { rounds: u32 },
+    Refused { number: u8, place: usize },
+}
