@@ -1,7 +1,7 @@
 -- For every call its checks in order ("Sheets from a table ask 1 to 7", and so on), its report, and its results. `lent` is the lengths of the
 -- slices of n cells that a call is lent for outputs and work, `matrices` those of n × n cells. What an output slice holds after a call is
 -- `output report length result`; a work slice is 0 in every cell.
-use mathlib.Core.List.{List, [], _∷_}
+use mathlib.Core.List.{List, [], _∷_, _++_}
 use Prim.Native.Nat.{ℕ}
 use lib.ListN.{length}
 use Rattle.model.specs.Numbers.{tabulate, at, matrix, transposed}
@@ -43,19 +43,15 @@ module _ (t : Table) where
   unfoldable pub domesticDemands : List ℕ
   domesticDemands = tabulate (t .sectors) (domesticDemand t)
 
--- ---- production and price: 1, 2, 7, 8, 9
-abbrev pub matrixChecks : ℕ → List ℕ → List ℕ → List Check
-matrixChecks n d lent = size n ∷ lengths n (length d ∷ []) lent ∷ columnSums n (at n d) ∷ []
-
 module _ (n : ℕ) (d : List ℕ) where
+  -- ---- what every call on a domestic sheet asks first: 1, 2, 7
+  abbrev pub matrixChecks : List ℕ → List ℕ → List Check
+  matrixChecks matrices lent = size n ∷ lengths n (length d ∷ matrices) lent ∷ columnSums n (at n d) ∷ []
+
+  -- ---- production and price: 1, 2, 7, 8, 9
   abbrev pub settlingChecks : (ℕ → ℕ → ℕ) → ℕ → List ℕ → ℕ → List ℕ → List Check
   settlingChecks c limit s budget lent =
-      size n
-      ∷ lengths n (length d ∷ []) (length s ∷ lent)
-      ∷ columnSums n (at n d)
-      ∷ starts n limit s
-      ∷ single 9 (settles n c s budget)
-      ∷ []
+      matrixChecks [] (length s ∷ lent) ++ (starts n limit s ∷ single 9 (settles n c s budget) ∷ [])
 
   unfoldable pub productionReport : List ℕ → ℕ → List ℕ → Report
   productionReport f budget lent =
@@ -74,14 +70,7 @@ module _ (n : ℕ) (d : List ℕ) where
   -- ---- backwards: 1, 2, 7, 8, 10
   unfoldable pub impliedReport : List ℕ → List ℕ → Report
   impliedReport y lent =
-      verdict
-      (size n
-      ∷ lengths n (length d ∷ []) (length y ∷ lent)
-      ∷ columnSums n (at n d)
-      ∷ productionTotal n y
-      ∷ demandLeft n (at n d) y
-      ∷ [])
-      0
+      verdict (matrixChecks [] (length y ∷ lent) ++ (productionTotal n y ∷ demandLeft n (at n d) y ∷ [])) 0
 
   unfoldable pub impliedDemand : List ℕ → List ℕ
   impliedDemand y = implied n (at n d) y
@@ -89,9 +78,7 @@ module _ (n : ℕ) (d : List ℕ) where
   -- ---- the inverse sheet: 1, 2, 7, 9. Its results are `inverse n d budget` and the two ratios
   unfoldable pub inverseReport : ℕ → List ℕ → List ℕ → Report
   inverseReport budget matrices lent =
-      verdict
-      (size n ∷ lengths n (length d ∷ matrices) lent ∷ columnSums n (at n d) ∷ columnsSettle n d budget ∷ [])
-      (inverseRounds n d budget)
+      verdict (matrixChecks matrices lent ++ (columnsSettle n d budget ∷ [])) (inverseRounds n d budget)
 
   unfoldable pub powerOfDispersion : ℕ → List ℕ
   powerOfDispersion budget = tabulate n (dispersion n (at n (inverse n d budget)))

@@ -46,11 +46,12 @@ abbrev pub verdict : List Check → ℕ → Report
 verdict [] k = accepts k
 verdict (q ∷ qs) k =
     let place = first (q .places) (q .passes) in
-    elim (ltb place (q .places)) [ true ↦ refuses (q .number) place | false ↦ verdict qs k ]
+    let later = verdict qs k in
+    cond (ltb place (q .places)) (refuses (q .number) place) later
 
 -- What a call leaves in an output slice: the result, or 0 in every cell, whatever the slice's length
 abbrev pub output : Report → ℕ → List ℕ → List ℕ
-output r len result = elim (r .accepted) [ true ↦ result | false ↦ replicate len 0 ]
+output r len result = cond (r .accepted) result (replicate len 0)
 
 -- a check whose place is always 0
 abbrev pub single : ℕ → Bool → Check

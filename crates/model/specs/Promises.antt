@@ -7,12 +7,16 @@ use lib.ListN.{length}
 use Rattle.model.specs.Numbers.{sum, cell, at, transposed}
 use Rattle.model.specs.Rounds.{Settles, ExactBalance, shortfall}
 
+-- question 7 is answered yes
+abbrev pub LowColumns : ℕ → (ℕ → ℕ → ℕ) → Type 0
+LowColumns n c = (j : ℕ) → j < n → sum n (transposed c j) ≤ 950000
+
 -- A domestic sheet is accepted: n from 1 to 40, n × n cells, question 7 answered yes
 pub record AcceptedMatrix (n : ℕ) (d : List ℕ) : Type 0 where
   pub some : 1 ≤ n
   pub few : n ≤ 40
   pub cells : length d ≡ n * n
-  pub low : (j : ℕ) → j < n → sum n (transposed (at n d) j) ≤ 950000
+  pub low : LowColumns n (at n d)
 
 -- equal in every sector
 abbrev pub Equal : ℕ → List ℕ → List ℕ → Type 0
@@ -23,12 +27,12 @@ abbrev pub Distinguishes : ℕ → List ℕ → List ℕ → List ℕ → Type 0
 Distinguishes n d f y = (g z : List ℕ) (k : ℕ) → Settles n (at n d) g k z → Equal n y z ↔ Equal n f g
 
 -- Demand 3, second half: against every exact balance y is nowhere too high, and all sectors together lack less than 20 × n
-pub record NearBalance (n : ℕ) (d f y : List ℕ) (q : ℕ) (b : ℕ → ℕ) : Type 0 where
+pub record NearBalance (n : ℕ) (y : List ℕ) (q : ℕ) (b : ℕ → ℕ) : Type 0 where
   pub nowhereTooHigh : (i : ℕ) → i < n → q * cell y i ≤ b i
   pub together : sum n (shortfall q b y) < 20 * q * n
 
 abbrev pub Accurate : ℕ → List ℕ → List ℕ → List ℕ → Type 0
-Accurate n d f y = (q : ℕ) (b : ℕ → ℕ) → ExactBalance n (at n d) f q b → NearBalance n d f y q b
+Accurate n d f y = (q : ℕ) (b : ℕ → ℕ) → ExactBalance n (at n d) f q b → NearBalance n y q b
 
 -- Prices: nowhere above an exact balance of the column direction, and in each sector less than 20 millionths below it
 pub record NearPrices (n : ℕ) (r : List ℕ) (q : ℕ) (b : ℕ → ℕ) : Type 0 where
@@ -37,3 +41,11 @@ pub record NearPrices (n : ℕ) (r : List ℕ) (q : ℕ) (b : ℕ → ℕ) : Typ
 
 abbrev pub AccuratePrices : ℕ → List ℕ → List ℕ → List ℕ → Type 0
 AccuratePrices n d w r = (q : ℕ) (b : ℕ → ℕ) → ExactBalance n (transposed (at n d)) w q b → NearPrices n r q b
+
+-- Demand 2, of the demand f behind a production y: going forward and then back returns the demand, of any demand g that settles at y
+abbrev pub Returns : ℕ → List ℕ → List ℕ → List ℕ → Type 0
+Returns n d y f = (g : List ℕ) (k : ℕ) → length g ≡ n → Settles n (at n d) g k y → f ≡ g
+
+-- Going back and then forward need not return; what holds is that the production z settled from f is nowhere above y
+abbrev pub NotAbove : ℕ → List ℕ → List ℕ → List ℕ → Type 0
+NotAbove n d y f = (z : List ℕ) (k : ℕ) → Settles n (at n d) f k z → (i : ℕ) → i < n → cell z i ≤ cell y i

@@ -1,0 +1,122 @@
+-- Lists written from the front, lists made by a rule, searches, and the test for sameness. Assumes nothing.
+use mathlib.Core.Bool.{Bool, true, false, _&&_, not, false≢true}
+use mathlib.Core.List.{List}
+use mathlib.Core.Path.{_≡_, refl, sym, ap, _∙_}
+use Prim.Native.Nat.{ℕ, zero, suc, _+_, _<_, _≤_, zero-le, suc-le-suc}
+use native.Mathlib.Nat.{not-suc-le-zero, le-of-suc-le-suc, le-step, lt-suc-self, zero-lt-suc, ne-of-lt, lt-of-lt-of-le, le-refl}
+use native.Mathlib.Omega.{arith}
+use borrow.Author.Count.{below-more}
+use borrow.Author.Tests.{eq-eqb, ne-eqb, eqb-true}
+use lib.Dec.{eqb}
+use lib.ListN.{length, set, replicate, length-replicate, getD-replicate}
+use lib.Seq.{ext-getD, getD-set-same, getD-set-other}
+use Rattle.model.specs.Numbers.{first, tabulate, cell, same}
+use Rattle.model.specs.Promises.{Equal}
+use Rattle.theory.proofs.Sums.{upto}
+
+-- ---- a list that is written from the front
+-- l has f k at each k below i
+abbrev pub Agree : List ℕ → ℕ → (ℕ → ℕ) → Type 0
+Agree l i f = (k : ℕ) → k < i → cell l k ≡ f k
+
+pub agree-none : (l : List ℕ) (f : ℕ → ℕ) → Agree l 0 f
+agree-none l f k h = absurd (not-suc-le-zero h)
+
+pub agree-set : (l : List ℕ) (i : ℕ) (f : ℕ → ℕ) (v : ℕ) → i < length l → v ≡ f i → Agree l i f → Agree (set l i v) (i + 1) f
+agree-set l i f v h e before =
+    below-more (λ k. cell (set l i v) k ≡ f k) i
+    (λ k lt. getD-set-other l i k v 0 (ne-of-lt lt) ∙ before k lt)
+    (getD-set-same l i v 0 h ∙ e)
+
+pub length-tabulate : (n : ℕ) (f : ℕ → ℕ) → length (tabulate n f) ≡ n
+length-tabulate zero f = refl
+length-tabulate (suc n) f = ap suc (length-tabulate n (λ k. f (suc k)))
+
+pub cell-tabulate : (n : ℕ) (f : ℕ → ℕ) (k : ℕ) → k < n → cell (tabulate n f) k ≡ f k
+cell-tabulate zero f k h = absurd (not-suc-le-zero h)
+cell-tabulate (suc n) f zero h = refl
+cell-tabulate (suc n) f (suc k) h = cell-tabulate n (λ j. f (suc j)) k (le-of-suc-le-suc h)
+
+-- a list of n cells that agrees with another list of n cells at all of them is that list
+pub agreed : (n i : ℕ) (l m : List ℕ) → length l ≡ n → length m ≡ n → n ≤ i → Agree l i (cell m) → l ≡ m
+agreed n i l m e f h p = ext-getD 0 l m (e ∙ sym f) (λ k lt. p k (omega arith))
+
+pub tabulated : (n i : ℕ) (f : ℕ → ℕ) (l : List ℕ) → length l ≡ n → n ≤ i → Agree l i f → l ≡ tabulate n f
+tabulated n i f l e h p =
+    agreed n n l (tabulate n f) e (length-tabulate n f) (le-refl n)
+    (λ k lt. p k (lt-of-lt-of-le lt h) ∙ sym (cell-tabulate n f k lt))
+
+pub zeroed : (n i : ℕ) (l : List ℕ) → length l ≡ n → n ≤ i → Agree l i (λ _. 0) → l ≡ replicate n 0
+zeroed n i l e h p =
+    agreed n n l (replicate n 0) e (length-replicate n 0) (le-refl n)
+    (λ k lt. p k (lt-of-lt-of-le lt h) ∙ sym (getD-replicate n k 0 0 lt))
+
+-- ---- the first place below n at which a test fails
+-- the test passes at every place below i
+abbrev pub All : (ℕ → Bool) → ℕ → Type 0
+All p i = (k : ℕ) → k < i → p k ≡ true
+
+pub all-none : (p : ℕ → Bool) → All p 0
+all-none p k h = absurd (not-suc-le-zero h)
+
+pub all-more : (p : ℕ → Bool) (i : ℕ) → All p i → p i ≡ true → All p (i + 1)
+all-more p i before here = below-more (λ k. p k ≡ true) i before here
+
+pub first-here : (n : ℕ) (p : ℕ → Bool) (i : ℕ) → i < n → All p i → p i ≡ false → first n p ≡ i
+first-here zero p i h before here = absurd (not-suc-le-zero h)
+first-here (suc n) p zero h before here = rw (first, here)
+first-here (suc n) p (suc i) h before here =
+    rw (first, before 0 (zero-lt-suc i))
+    (ap suc (first-here n (λ k. p (suc k)) i (le-of-suc-le-suc h) (λ k lt. before (suc k) (suc-le-suc lt)) here))
+
+pub first-none : (n i : ℕ) (p : ℕ → Bool) → n ≤ i → All p i → first n p ≡ n
+first-none zero i p h before = refl
+first-none (suc n) zero p h before = absurd (not-suc-le-zero h)
+first-none (suc n) (suc i) p h before =
+    rw (first, before 0 (zero-lt-suc i))
+    (ap suc (first-none n i (λ k. p (suc k)) (le-of-suc-le-suc h) (λ k lt. before (suc k) (suc-le-suc lt))))
+
+-- and back: before the first the test passes, and at it the test fails
+pub first-before : (n : ℕ) (p : ℕ → Bool) → All p (first n p)
+first-before zero p k h = absurd (not-suc-le-zero h)
+first-before (suc n) p k h = split (p 0) refl k h (first-before n (λ i. p (suc i)))
+  where
+    split : (t : Bool) → p 0 ≡ t → (k : ℕ) → k < elim t [ true ↦ suc (first n (λ i. p (suc i))) | false ↦ 0 ]
+        → All (λ i. p (suc i)) (first n (λ i. p (suc i))) → p k ≡ true
+    split false e k h more = absurd (not-suc-le-zero h)
+    split true e zero h more = e
+    split true e (suc k) h more = more k (le-of-suc-le-suc h)
+
+pub first-fails : (n : ℕ) (p : ℕ → Bool) → first n p < n → p (first n p) ≡ false
+first-fails zero p h = absurd (not-suc-le-zero h)
+first-fails (suc n) p h = split (p 0) refl h (first-fails n (λ i. p (suc i)))
+  where
+    split : (t : Bool) → p 0 ≡ t → elim t [ true ↦ suc (first n (λ i. p (suc i))) | false ↦ 0 ] < suc n
+        → (first n (λ i. p (suc i)) < n → p (suc (first n (λ i. p (suc i)))) ≡ false)
+        → p (elim t [ true ↦ suc (first n (λ i. p (suc i))) | false ↦ 0 ]) ≡ false
+    split false e h more = e
+    split true e h more = more (le-of-suc-le-suc h)
+
+-- ---- tests
+pub and-true : (a b : Bool) → a && b ≡ true → (a ≡ true) × (b ≡ true)
+and-true true b e = (refl, e)
+and-true false b e = absurd (false≢true e)
+
+pub same-equal : (n : ℕ) (a b : List ℕ) → same n a b ≡ true → Equal n a b
+same-equal zero a b e = λ i h. absurd (not-suc-le-zero h)
+same-equal (suc n) a b e =
+    let p = and-true (same n a b) (eqb (cell a n) (cell b n)) e in
+    upto (same-equal n a b (p .0)) (eqb-true (cell a n) (cell b n) (p .1))
+
+pub equal-same : (n : ℕ) (a b : List ℕ) → Equal n a b → same n a b ≡ true
+equal-same zero a b p = refl
+equal-same (suc n) a b p =
+    rw (equal-same n a b (λ i h. p i (le-step h))) (eq-eqb (cell a n) (cell b n) (p n (lt-suc-self n)))
+
+-- two columns that differ in a sector are not the same
+pub unequal : (n : ℕ) (a b : List ℕ) (i : ℕ) → i < n → (cell a i ≡ cell b i → ⊥) → same n a b ≡ false
+unequal n a b i h ne = split (same n a b) refl
+  where
+    split : (t : Bool) → same n a b ≡ t → same n a b ≡ false
+    split true e = absurd (ne (same-equal n a b e i h))
+    split false e = e

@@ -1,0 +1,90 @@
+-- What a list of checks says, check by check. Assumes nothing.
+use mathlib.Core.Path.{_≡_, refl, sym, _∙_, ap}
+use mathlib.Core.Bool.{Bool, true, false, cond, _&&_, false≢true}
+use mathlib.Core.List.{List, [], _∷_, _++_}
+use Prim.Native.Nat.{ℕ, _*_, _≤_, _<_}
+use native.Mathlib.Nat.{le-refl, lt-of-lt-of-le}
+use borrow.Author.Tests.{lt-ltb, le-ltb, ltb-false, le-leb, leb-true, eq-eqb, eqb-true}
+use lib.Dec.{ltb, leb, eqb}
+use lib.ListN.{length}
+use Rattle.model.specs.Numbers.{sum, first, all, at, transposed}
+use Rattle.model.specs.Checks.{Report, Check, refuses, verdict, size, lengths, columnSums}
+use Rattle.model.specs.Calls.{matrixChecks}
+use Rattle.model.specs.Promises.{AcceptedMatrix}
+use Rattle.theory.proofs.Lists.{All, first-here, first-none, first-before, and-true}
+
+-- a check passes at all its places, and all checks of a list do
+abbrev pub Passes : Check → Type 0
+Passes q = All (q .passes) (q .places)
+
+abbrev pub AllPass : List Check → Type 0
+AllPass [] = Unit {0}
+AllPass (q ∷ qs) = Passes q × AllPass qs
+
+module _ (q : Check) (qs : List Check) (k : ℕ) where
+  -- a check that passes is passed over
+  pub passed : (i : ℕ) → q .places ≤ i → All (q .passes) i → verdict (q ∷ qs) k ≡ verdict qs k
+  passed i h p = rw (first-none (q .places) i (q .passes) h p, le-ltb (q .places) (q .places) (le-refl (q .places)))
+
+  -- one that fails gives its number and its first failing place
+  pub failed : (i : ℕ) → i < q .places → All (q .passes) i → q .passes i ≡ false → verdict (q ∷ qs) k ≡ refuses (q .number) i
+  failed i h before here = rw (first-here (q .places) (q .passes) i h before here, lt-ltb i (q .places) h)
+
+-- where a list of checks accepts, all of them pass
+pub accepted-all : (qs : List Check) (k : ℕ) → verdict qs k .accepted ≡ true → AllPass qs
+accepted-all [] k a = tt
+accepted-all (q ∷ qs) k a = split (ltb place (q .places)) refl a (accepted-all qs k)
+  where
+    place : ℕ
+    place = first (q .places) (q .passes)
+
+    split : (t : Bool) → ltb place (q .places) ≡ t → cond t (refuses (q .number) place) (verdict qs k) .accepted ≡ true
+        → (verdict qs k .accepted ≡ true → AllPass qs) → Passes q × AllPass qs
+    split true e a more = absurd (false≢true a)
+    split false e a more =
+        (λ i h. first-before (q .places) (q .passes) i (lt-of-lt-of-le h (ltb-false place (q .places) e)), more a)
+
+-- checks that all pass hand on to what follows
+pub pass-on : (ps qs : List Check) (k : ℕ) → AllPass ps → verdict (ps ++ qs) k ≡ verdict qs k
+pass-on [] qs k p = refl
+pass-on (q ∷ ps) qs k p =
+    passed q (ps ++ qs) k (q .places) (le-refl (q .places)) (p .0) ∙ pass-on ps qs k (p .1)
+
+-- checks that refuse refuse whatever follows
+pub refuse-on : (ps qs : List Check) (k a p : ℕ) → verdict ps 0 ≡ refuses a p → verdict (ps ++ qs) k ≡ refuses a p
+refuse-on [] qs k a p e = absurd (false≢true (sym (ap (λ (r : Report). r .accepted) e)))
+refuse-on (q ∷ ps) qs k a p e = split (ltb place (q .places)) e (refuse-on ps qs k a p)
+  where
+    place : ℕ
+    place = first (q .places) (q .passes)
+
+    split : (t : Bool) → cond t (refuses (q .number) place) (verdict ps 0) ≡ refuses a p
+        → (verdict ps 0 ≡ refuses a p → verdict (ps ++ qs) k ≡ refuses a p)
+        → cond t (refuses (q .number) place) (verdict (ps ++ qs) k) ≡ refuses a p
+    split true e more = e
+    split false e more = more e
+
+-- ---- checks 1, 2 and 7: where they pass the domestic matrix is accepted and the slices have their lengths, and the other way round
+module _ (n : ℕ) (d matrices lent : List ℕ) where
+  pub accepted-matrix : AllPass (matrixChecks n d matrices lent) → AcceptedMatrix n d × (all (eqb n) lent ≡ true)
+  accepted-matrix (p, (q, (r, _))) =
+      let s = and-true (leb 1 n) (leb n 40) (p 0 (le-refl 1)) in
+      let l = and-true (eqb (n * n) (length d) && all (eqb (n * n)) matrices) (all (eqb n) lent) (q 0 (le-refl 1)) in
+      let m = and-true (eqb (n * n) (length d)) (all (eqb (n * n)) matrices) (l .0) in (
+        record {
+          some = leb-true 1 n (s .0);
+          few = leb-true n 40 (s .1);
+          cells = sym (eqb-true (n * n) (length d) (m .0));
+          low = λ j h. leb-true (sum n (transposed (at n d) j)) 950000 (r j h);
+        },
+        l .1,
+      )
+
+  pub matrix-accepted : AcceptedMatrix n d → all (eqb (n * n)) matrices ≡ true → all (eqb n) lent ≡ true → AllPass (matrixChecks n d matrices lent)
+  matrix-accepted A e f = (
+    λ _ _. rw (le-leb 1 n (A .some)) (le-leb n 40 (A .few)),
+    (
+      λ _ _. rw (eq-eqb (n * n) (length d) (sym (A .cells)), e) f,
+      (λ j h. le-leb (sum n (transposed (at n d) j)) 950000 (A .low j h), tt),
+    ),
+  )
