@@ -2,12 +2,11 @@
 use mathlib.Core.Path.{_≡_, refl}
 use mathlib.Core.List.{List, [], _∷_, map}
 use Prim.Native.Nat.{ℕ, _+_, _*_}
-use Rattle.model.specs.Numbers.{one, tabulate, cell, at}
+use Rattle.model.specs.Numbers.{one, tabulate, cell, at, transposed}
 use Rattle.model.specs.Table.{Table, absorption, inputCoefficient, valueAddedCoefficient, importCoefficient, domesticCoefficient, domesticDemand}
-use Rattle.model.specs.Rounds.{weighted, intermediate, round, rounds, changes, settling, settled, implied}
-use Rattle.model.specs.Multipliers.{unit, inverse, inverseRounds, dispersion}
+use Rattle.model.specs.Rounds.{weighted, intermediate, round, rounds, changes, settling, settled, impliedDemand, unit, inverse, inverseRounds, powerOfDispersion, sensitivityOfDispersion}
 use Rattle.model.specs.Checks.{Report, accepts, refuses, output}
-use Rattle.model.specs.Calls.{coefficientsReport, inputCoefficients, valueAddedCoefficients, importCoefficients, domesticCoefficients, domesticDemands, productionReport, production, priceReport, price, impliedReport, impliedDemand, inverseReport, powerOfDispersion, sensitivityOfDispersion}
+use Rattle.model.specs.Calls.{coefficientsReport, inputCoefficients, valueAddedCoefficients, importCoefficients, domesticCoefficients, domesticDemands, productionReport, priceReport, impliedReport, inverseReport}
 
 -- what a call says, and its output slices after it
 pub record Result : Type 0 where
@@ -39,17 +38,17 @@ module _ (n : ℕ) (d : List ℕ) where
   abbrev productionOf : List ℕ → ℕ → Result
   productionOf f budget =
       let r = productionReport n d f budget (n ∷ n ∷ []) in
-      record { said = r; outputs = output r n (production n d f budget) ∷ [] }
+      record { said = r; outputs = output r n (settled n (at n d) f budget) ∷ [] }
 
   abbrev priceOf : List ℕ → ℕ → Result
   priceOf w budget =
       let r = priceReport n d w budget (n ∷ n ∷ []) in
-      record { said = r; outputs = output r n (price n d w budget) ∷ [] }
+      record { said = r; outputs = output r n (settled n (transposed (at n d)) w budget) ∷ [] }
 
   abbrev impliedOf : List ℕ → Result
   impliedOf y =
       let r = impliedReport n d y (n ∷ []) in
-      record { said = r; outputs = output r n (impliedDemand n d y) ∷ [] }
+      record { said = r; outputs = output r n (impliedDemand n (at n d) y) ∷ [] }
 
   abbrev inverseOf : ℕ → Result
   inverseOf budget =
@@ -58,8 +57,8 @@ module _ (n : ℕ) (d : List ℕ) where
         said = r;
         outputs =
             output r (n * n) (inverse n d budget)
-            ∷ output r n (powerOfDispersion n d budget)
-            ∷ output r n (sensitivityOfDispersion n d budget)
+            ∷ output r n (powerOfDispersion n (at n (inverse n d budget)))
+            ∷ output r n (sensitivityOfDispersion n (at n (inverse n d budget)))
             ∷ [];
       }
 
@@ -133,5 +132,5 @@ rows =
     ∷ []
 
 pub worked : map (λ (r : Row). r .given) rows ≡ map (λ (r : Row). r .stated) rows
-unfolding rows coefficientsReport inputCoefficients valueAddedCoefficients importCoefficients domesticCoefficients domesticDemands productionReport production priceReport price impliedReport impliedDemand inverseReport powerOfDispersion sensitivityOfDispersion absorption inputCoefficient valueAddedCoefficient importCoefficient domesticCoefficient domesticDemand intermediate round rounds changes settling settled implied unit inverse inverseRounds dispersion
+unfolding rows coefficientsReport inputCoefficients valueAddedCoefficients importCoefficients domesticCoefficients domesticDemands productionReport priceReport impliedReport inverseReport absorption inputCoefficient valueAddedCoefficient importCoefficient domesticCoefficient domesticDemand intermediate round rounds changes settling settled impliedDemand unit inverse inverseRounds powerOfDispersion sensitivityOfDispersion
 worked = refl

@@ -5,9 +5,8 @@ use Prim.Native.Nat.{ℕ, suc, _+_, _*_}
 use lib.Dec.{eqb, leb, ltb}
 use lib.ListN.{length, replicate}
 use Rattle.model.specs.Numbers.{one, sum, first, all, cell, at, transposed}
-use Rattle.model.specs.Table.{Table, flow, absorption, domesticCoefficient}
-use Rattle.model.specs.Rounds.{intermediate, settling}
-use Rattle.model.specs.Multipliers.{unit}
+use Rattle.model.specs.Table.{Table, flow, absorption}
+use Rattle.model.specs.Rounds.{intermediate, settling, unit}
 use Rattle.model.specs.declared.Answer.{Answer}
 use Rattle.model.specs.declared.Answer.the-variants.{Accepted, Refused}
 use Rattle.model.specs.declared.Outcome.{Outcome}
@@ -53,9 +52,12 @@ verdict (q ∷ qs) k =
 abbrev pub output : Report → ℕ → List ℕ → List ℕ
 output r len result = cond (r .accepted) result (replicate len 0)
 
--- a check whose place is always 0
+-- check k at each of n places, and one whose place is always 0
+abbrev pub each : ℕ → ℕ → (ℕ → Bool) → Check
+each k n p = record { number = k; places = n; passes = p }
+
 abbrev pub single : ℕ → Bool → Check
-single k b = record { number = k; places = 1; passes = λ _. b }
+single k b = each k 1 (λ _. b)
 
 abbrev pub within : ℕ → List ℕ → ℕ → Bool
 within limit xs i = leb (cell xs i) limit
@@ -72,70 +74,56 @@ lengths n matrices columns = single 2 (all (eqb (n * n)) matrices && all (eqb n)
 abbrev pub tableAmounts : Table → Check
 tableAmounts t =
     let cells = t .flows ++ t .finalDemand ++ t .exports ++ t .imports ++ t .valueAdded ++ t .production in
-    record { number = 3; places = length cells; passes = within 1000000000 cells }
+    each 3 (length cells) (within 1000000000 cells)
 
 -- and every share within one: for induced amounts in a, m, v, then F
 abbrev pub inducedAmounts : List ℕ → List ℕ → List ℕ → List ℕ → Check
 inducedAmounts a m v F =
     let shares = a ++ m ++ v in
-    let cells = shares ++ F in
-    record {
-      number = 3;
-      places = length cells;
-      passes = λ i. within (cond (ltb i (length shares)) one 1000000000) cells i;
-    }
+    each 3 (length (shares ++ F)) (λ i. within (cond (ltb i (length shares)) one 1000000000) (shares ++ F) i)
 
 module _ (t : Table) where
   -- 4. every column balances
   abbrev pub columnBalances : Check
   columnBalances =
-      record {
-        number = 4;
-        places = t .sectors;
-        passes = λ j. eqb (sum (t .sectors) (transposed (flow t) j) + cell (t .valueAdded) j) (cell (t .production) j);
-      }
+      each 4 (t .sectors)
+      (λ j. eqb (sum (t .sectors) (transposed (flow t) j) + cell (t .valueAdded) j) (cell (t .production) j))
 
   -- 5. every row balances
   abbrev pub rowBalances : Check
   rowBalances =
-      record {
-        number = 5;
-        places = t .sectors;
-        passes = λ i.
-            eqb (sum (t .sectors) (flow t i) + (cell (t .finalDemand) i + cell (t .exports) i))
-            (cell (t .production) i + cell (t .imports) i);
-      }
+      each 5 (t .sectors)
+      (λ i. eqb (absorption t i + cell (t .exports) i) (cell (t .production) i + cell (t .imports) i))
 
   -- 6. a sector's imports are at most its domestic need
   abbrev pub importsCovered : Check
-  importsCovered =
-      record { number = 6; places = t .sectors; passes = λ i. leb (cell (t .imports) i) (absorption t i) }
+  importsCovered = each 6 (t .sectors) (λ i. leb (cell (t .imports) i) (absorption t i))
 
 -- 7. every column sum of domestic coefficients is at most 950,000
 abbrev pub columnSums : ℕ → (ℕ → ℕ → ℕ) → Check
-columnSums n c = record { number = 7; places = n; passes = λ j. leb (sum n (transposed c j)) 950000 }
+columnSums n c = each 7 n (λ j. leb (sum n (transposed c j)) 950000)
 
--- 8. every demand for domestic goods, or every direct rise, is at most its limit
-abbrev pub starts : ℕ → ℕ → List ℕ → Check
-starts n limit s = record { number = 8; places = n; passes = within limit s }
-
+-- 8. every demand for domestic goods is at most 2,000,000,000, and every direct rise at most 1,000,000,000
 abbrev pub demandLimit : ℕ
 demandLimit = 2000000000
 
 abbrev pub riseLimit : ℕ
 riseLimit = 1000000000
 
--- and the total of a given production is at most 1,600,000,000,000: the running total up to and with sector i
-abbrev pub productionTotal : ℕ → List ℕ → Check
-productionTotal n y = record { number = 8; places = n; passes = λ i. leb (sum (suc i) (cell y)) 1600000000000 }
+abbrev pub starts : ℕ → ℕ → List ℕ → Check
+starts n limit s = each 8 n (within limit s)
 
--- 9. the rounds settle within the budget; of the inverse, those of every column
+-- and the total of a given production is at most 1,600,000,000,000: the place is the first running total above it
+abbrev pub productionTotal : ℕ → List ℕ → Check
+productionTotal n y = each 8 n (λ i. leb (sum (suc i) (cell y)) 1600000000000)
+
+-- 9. the rounds settle within the budget; of the inverse sheet those of every column
 abbrev pub settles : ℕ → (ℕ → ℕ → ℕ) → List ℕ → ℕ → Bool
 settles n c s budget = leb (settling n c s budget) budget
 
 abbrev pub columnsSettle : ℕ → List ℕ → ℕ → Check
-columnsSettle n d budget = record { number = 9; places = n; passes = λ j. settles n (at n d) (unit n j) budget }
+columnsSettle n d budget = each 9 n (λ j. settles n (at n d) (unit n j) budget)
 
 -- 10. a given production leaves every sector's demand at 0 or above
 abbrev pub demandLeft : ℕ → (ℕ → ℕ → ℕ) → List ℕ → Check
-demandLeft n c y = record { number = 10; places = n; passes = λ i. leb (intermediate n c (cell y) i) (cell y i) }
+demandLeft n c y = each 10 n (λ i. leb (intermediate n c (cell y) i) (cell y i))

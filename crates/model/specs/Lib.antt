@@ -2,7 +2,6 @@
 pub mod Numbers
 pub mod Table
 pub mod Rounds
-pub mod Multipliers
 pub mod Checks
 pub mod Calls
 pub mod Promises

@@ -1,10 +1,12 @@
 -- Document 01, "Rounds". A coefficient function c gives the direction of a domestic matrix d: production reads `at n d`, prices read
 -- `transposed (at n d)`. The start s is a demand for domestic goods, or a direct rise.
 use mathlib.Core.Path.{_≡_}
-use mathlib.Core.Bool.{Bool, true, false, not}
-use mathlib.Core.List.{List}
+use mathlib.Core.Bool.{Bool, true, false, not, _&&_}
+use mathlib.Core.List.{List, []}
 use Prim.Native.Nat.{ℕ, zero, suc, _+_, _*_, _-_, _/_, _≤_, _<_}
-use Rattle.model.specs.Numbers.{one, sum, first, tabulate, cell, same}
+use lib.Dec.{eqb, leb, ltb}
+use lib.ListN.{length, take, drop}
+use Rattle.model.specs.Numbers.{one, sum, largest, first, tabulate, cell, same, at, matrix, transposed}
 use Rattle.model.specs.Table.{portion}
 
 -- c(i,j) × amount(j)
@@ -57,12 +59,37 @@ abbrev pub shortfall : ℕ → (ℕ → ℕ) → List ℕ → ℕ → ℕ
 shortfall q b y i = b i - q * cell y i
 
 -- Backwards: the demand behind a production
-unfoldable pub implied : ℕ → (ℕ → ℕ → ℕ) → List ℕ → List ℕ
-implied n c y = tabulate n (λ i. cell y i - intermediate n c (cell y) i)
+unfoldable pub impliedDemand : ℕ → (ℕ → ℕ → ℕ) → List ℕ → List ℕ
+impliedDemand n c y = tabulate n (λ i. cell y i - intermediate n c (cell y) i)
 
--- Induced value added of sector j, and induced imports of sector i, at a production y
-unfoldable pub inducedValueAdded : List ℕ → List ℕ → ℕ → ℕ
-inducedValueAdded v y j = portion (cell v j) (cell y j)
+-- Induced value added, and induced imports, at a production y
+unfoldable pub inducedValueAdded : ℕ → List ℕ → List ℕ → List ℕ
+inducedValueAdded n v y = tabulate n (λ j. portion (cell v j) (cell y j))
 
-unfoldable pub inducedImports : ℕ → (ℕ → ℕ → ℕ) → List ℕ → List ℕ → List ℕ → ℕ → ℕ
-inducedImports n a m F y i = portion (cell m i) (intermediate n a (cell y) i + cell F i)
+unfoldable pub inducedImports : ℕ → (ℕ → ℕ → ℕ) → List ℕ → List ℕ → List ℕ → List ℕ
+inducedImports n a m F y = tabulate n (λ i. portion (cell m i) (intermediate n a (cell y) i + cell F i))
+
+-- a demand of one in sector j and 0 elsewhere
+unfoldable pub unit : ℕ → ℕ → List ℕ
+unit n j = tabulate n (λ i. elim (eqb i j) [ true ↦ one | false ↦ 0 ])
+
+-- The inverse sheet (Leontief inverse): column j is the production settled from one in sector j. The budget holds for each column
+unfoldable pub inverse : ℕ → List ℕ → ℕ → List ℕ
+inverse n d budget = matrix n (λ i j. cell (settled n (at n d) (unit n j) budget) i)
+
+-- its count of rounds: the largest of the columns'
+unfoldable pub inverseRounds : ℕ → List ℕ → ℕ → ℕ
+inverseRounds n d budget = largest n (λ j. settling n (at n d) (unit n j) budget)
+
+-- Influence ratio of j (power of dispersion) over an inverse z: its column sum against all cells
+unfoldable pub powerOfDispersion : ℕ → (ℕ → ℕ → ℕ) → List ℕ
+powerOfDispersion n z = tabulate n (λ j. sum n (transposed z j) * n * one / sum n (λ i. sum n (z i)))
+
+-- Sensitivity ratio of i (sensitivity of dispersion): its row sum against all cells
+unfoldable pub sensitivityOfDispersion : ℕ → (ℕ → ℕ → ℕ) → List ℕ
+sensitivityOfDispersion n z = tabulate n (λ i. sum n (z i) * n * one / sum n (λ i. sum n (z i)))
+
+-- A sector's row of a sheet: n cells from sector × n; empty where question 1 or 2 fails or the sector is not below n
+unfoldable pub rowSlice : ℕ → List ℕ → ℕ → List ℕ
+rowSlice n d i =
+    elim (leb 1 n && leb n 40 && eqb (length d) (n * n) && ltb i n) [ true ↦ take n (drop (i * n) d) | false ↦ [] ]

@@ -1,22 +1,22 @@
 -- What the papers promise of an accepted domestic matrix. Production goes along its rows, by the total; prices down its columns, by the
 -- largest; each is an instance of one law over a gauge. Assumes nothing.
-use mathlib.Core.Path.{_≡_, refl, sym, _∙_, subst}
+use mathlib.Core.Path.{_≡_, refl, sym, _∙_}
 use mathlib.Core.Bool.{true}
-use mathlib.Core.List.{List, [], _∷_, _++_}
-use Prim.Native.Nat.{ℕ, suc, _+_, _*_, _≤_, _<_}
+use mathlib.Core.List.{List, [], _∷_}
+use Prim.Native.Nat.{ℕ, suc, _≤_, _<_}
 use native.Mathlib.Omega.{arith}
 use native.Mathlib.Nat.{le-refl, le-trans}
 use borrow.Author.Tests.{le-leb, leb-true, eq-eqb, eqb-true}
-use lib.Dec.{eqb, leb}
+use lib.Dec.{eqb}
 use lib.ListN.{length}
 use Rattle.model.specs.Numbers.{sum, largest, all, at, cell, transposed}
-use Rattle.model.specs.Rounds.{weighted, intermediate, rounds, Settles, shortfall, settling, settled}
-use Rattle.model.specs.Checks.{accepts, verdict, starts, demandLimit, single, settles, productionTotal, demandLeft}
-use Rattle.model.specs.Calls.{matrixChecks, settlingChecks, productionReport, production, impliedReport, impliedDemand}
+use Rattle.model.specs.Rounds.{weighted, intermediate, rounds, Settles, shortfall, settling, settled, impliedDemand}
+use Rattle.model.specs.Checks.{accepts, verdict, demandLimit, settles, productionTotal, demandLeft}
+use Rattle.model.specs.Calls.{matrixChecks, settlingChecks, productionReport, impliedReport}
 use Rattle.model.specs.Promises.{AcceptedMatrix, Distinguishes, Accurate, AccuratePrices, Returns, NotAbove}
 use Rattle.theory.proofs.Sums.{sum-mono, sum-const, sum-part, sum-cell, largest-le, largest-cell}
 use Rattle.theory.proofs.Lists.{and-true}
-use Rattle.theory.proofs.Gauge.{Gauge, total-gauge, largest-gauge}
+use Rattle.theory.proofs.Gauge.{total-gauge, largest-gauge}
 use Rattle.theory.proofs.Rounds.{equal-starts, settles-fixed, settles-length, lowest, implied-cell, forward-back}
 use Rattle.theory.proofs.Settling.{counted}
 use Rattle.theory.proofs.Accuracy.{not-above, lacks-less, rounds-bounded, weighted-bounded}
@@ -73,14 +73,12 @@ module _ {n : ℕ} {d : List ℕ} (A : AcceptedMatrix n d) where
       omega (arith, sum-cell n (weighted n (at n d) (cell y)) i l, total-gauge n (at n d) (A .low) .shrinks (cell y))
 
 -- Demand 2: a demand behind a production is that of every start that settles there
-pub returns : (n : ℕ) (d y : List ℕ) → Returns n d y (impliedDemand n d y)
-unfolding impliedDemand
+pub returns : (n : ℕ) (d y : List ℕ) → Returns n d y (impliedDemand n (at n d) y)
 returns n d y g k e σ = forward-back n (at n d) e σ
 
 -- and what it settles at is nowhere above the production, if industry takes no more than there is
 pub not-above-given : (n : ℕ) (d y : List ℕ) → ((i : ℕ) → i < n → intermediate n (at n d) (cell y) i ≤ cell y i)
-    → NotAbove n d y (impliedDemand n d y)
-unfolding impliedDemand
+    → NotAbove n d y (impliedDemand n (at n d) y)
 not-above-given n d y p z k σ =
     lowest n (at n d) σ (cell y) (λ i h. omega (arith, p i h, implied-cell n (at n d) y i h))
 
@@ -105,8 +103,8 @@ accepted-settled n d c limit s budget lent k a =
 
 -- Demand 2: where production is accepted, going back from what it gives is accepted too, and returns the demand
 pub forward-then-back : (n : ℕ) (d f : List ℕ) (budget : ℕ) (lent : List ℕ) → productionReport n d f budget lent .accepted ≡ true
-    → (impliedReport n d (production n d f budget) (n ∷ []) ≡ accepts 0) × (impliedDemand n d (production n d f budget) ≡ f)
-unfolding productionReport production impliedReport settled
+    → (impliedReport n d (settled n (at n d) f budget) (n ∷ []) ≡ accepts 0) × (impliedDemand n (at n d) (settled n (at n d) f budget) ≡ f)
+unfolding productionReport impliedReport settled
 forward-then-back n d f budget lent a = (
   pass-on (matrixChecks n d [] (length y ∷ n ∷ [])) (productionTotal n y ∷ demandLeft n (at n d) y ∷ []) 0
       (matrix-accepted n d [] (length y ∷ n ∷ []) (s .matrix) refl (rw (eq-eqb n (length y) (sym (settles-length n (at n d) (s .start) (s .settles))), eq-eqb n n refl)))

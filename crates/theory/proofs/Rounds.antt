@@ -2,7 +2,7 @@
 -- coefficient function, so for both directions of a matrix. Assumes nothing.
 use mathlib.Core.Path.{_≡_, sym, _∙_, ap, subst⁻¹}
 use mathlib.Core.Logic.{_↔_}
-use mathlib.Core.Bool.{true, false, not, true≢false}
+use mathlib.Core.Bool.{false, true≢false}
 use mathlib.Core.List.{List}
 use Prim.Native.Nat.{ℕ, zero, suc, _+_, _*_, _-_, _/_, _≤_, _<_}
 use native.Mathlib.Omega.{arith}
@@ -10,7 +10,7 @@ use native.Mathlib.Nat.{le-refl, le-of-eq, le-antisymm, mul-le-mul-left, mul-com
 use borrow.Author.Tests.{not-false}
 use lib.ListN.{length}
 use Rattle.model.specs.Numbers.{one, cell, same}
-use Rattle.model.specs.Rounds.{product, weighted, intermediate, round, rounds, changes, Settles, ExactBalance, implied}
+use Rattle.model.specs.Rounds.{product, weighted, intermediate, round, rounds, changes, Settles, ExactBalance, impliedDemand}
 use Rattle.model.specs.Promises.{Equal}
 use Rattle.theory.proofs.Sums.{sum-mono, sum-cong, sum-add, sum-scale}
 use Rattle.theory.proofs.Lists.{length-tabulate, cell-tabulate, agreed, same-equal}
@@ -145,15 +145,15 @@ module _ (n : ℕ) (c : ℕ → ℕ → ℕ) where
           omega (arith, e i h, settles-fixed σ i h, settles-fixed τ i h, intermediate-cong e i)
 
   -- ---- forward and then back returns the start
-  pub implied-cell : (y : List ℕ) (i : ℕ) → i < n → cell (implied n c y) i ≡ cell y i - intermediate n c (cell y) i
-  unfolding implied
+  pub implied-cell : (y : List ℕ) (i : ℕ) → i < n → cell (impliedDemand n c y) i ≡ cell y i - intermediate n c (cell y) i
+  unfolding impliedDemand
   implied-cell y i h = cell-tabulate n (λ i. cell y i - intermediate n c (cell y) i) i h
 
-  pub length-implied : (y : List ℕ) → length (implied n c y) ≡ n
-  unfolding implied
+  pub length-implied : (y : List ℕ) → length (impliedDemand n c y) ≡ n
+  unfolding impliedDemand
   length-implied y = length-tabulate n (λ i. cell y i - intermediate n c (cell y) i)
 
-  pub forward-back : {s y : List ℕ} {k : ℕ} → length s ≡ n → Settles n c s k y → implied n c y ≡ s
+  pub forward-back : {s y : List ℕ} {k : ℕ} → length s ≡ n → Settles n c s k y → impliedDemand n c y ≡ s
   forward-back {s} {y} e σ =
-      agreed n n (implied n c y) s (length-implied y) e (le-refl n)
+      agreed n n (impliedDemand n c y) s (length-implied y) e (le-refl n)
       (λ i h. implied-cell y i h ∙ omega (arith, settles-fixed σ i h))

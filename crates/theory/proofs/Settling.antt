@@ -1,12 +1,12 @@
 -- The count of rounds: the least settling index, whatever the budget, if the budget allows it. Assumes nothing.
-use mathlib.Core.Path.{_≡_, refl, sym, _∙_, ap, subst}
+use mathlib.Core.Path.{_≡_, refl, sym, _∙_, ap}
 use mathlib.Core.Bool.{Bool, true, false, not, true≢false}
 use mathlib.Core.List.{List}
-use Prim.Native.Nat.{ℕ, zero, suc, _+_, _≤_, _<_, suc-le-suc}
+use Prim.Native.Nat.{ℕ, suc, _+_, _≤_, _<_, suc-le-suc}
 use native.Mathlib.Omega.{arith}
 use native.Mathlib.Numerals.{add-one}
-use native.Mathlib.Nat.{le-refl, le-of-suc-le-suc, not-suc-le-zero, zero-lt-suc, le-antisymm, lt-of-not-le}
-use Rattle.model.specs.Numbers.{same, first}
+use native.Mathlib.Nat.{le-refl, le-of-suc-le-suc, not-suc-le-zero, le-antisymm, lt-of-not-le}
+use Rattle.model.specs.Numbers.{same}
 use Rattle.model.specs.Rounds.{round, rounds, changes, settling, settled, Settles}
 use Rattle.theory.proofs.Sums.{upto}
 use Rattle.theory.proofs.Lists.{All, first-here, first-none, first-before, first-fails}

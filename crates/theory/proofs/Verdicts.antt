@@ -8,7 +8,7 @@ use borrow.Author.Tests.{lt-ltb, le-ltb, ltb-false, le-leb, leb-true, eq-eqb, eq
 use lib.Dec.{ltb, leb, eqb}
 use lib.ListN.{length}
 use Rattle.model.specs.Numbers.{sum, first, all, at, transposed}
-use Rattle.model.specs.Checks.{Report, Check, refuses, verdict, size, lengths, columnSums}
+use Rattle.model.specs.Checks.{Report, Check, refuses, verdict}
 use Rattle.model.specs.Calls.{matrixChecks}
 use Rattle.model.specs.Promises.{AcceptedMatrix}
 use Rattle.theory.proofs.Lists.{All, first-here, first-none, first-before, and-true}
