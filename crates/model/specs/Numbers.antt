@@ -54,3 +54,8 @@ matrix n c = tabulate (n * n) (λ k. c (k / n) (k % n))
 -- rows and columns exchanged
 abbrev pub transposed : (ℕ → ℕ → ℕ) → ℕ → ℕ → ℕ
 transposed c i j = c j i
+
+-- the direction of a matrix: down its columns, or along its rows
+abbrev pub oriented : Bool → (ℕ → ℕ → ℕ) → ℕ → ℕ → ℕ
+oriented true c = transposed c
+oriented false c = c

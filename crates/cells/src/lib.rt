@@ -1,0 +1,84 @@
+// Leaves over lent slices. `transposed` gives the direction of a matrix: along its rows, or down its columns.
+ghost use mathlib.Core.Path.{_≡_};
+ghost use Prim.Native.Nat.{ℕ, _+_, _*_, _<_, _≤_};
+ghost use lib.ListN.{length, replicate};
+ghost use Rattle.model.specs.Numbers.{at, cell, oriented, same};
+ghost use Rattle.model.specs.Rounds.{intermediate, round, weighted};
+ghost use Rattle.model.specs.Checks.{demandLimit};
+
+// Sets every cell to 0.
+pub fn fill_zero(s: &mut [u64])
+    ensures { λ _. ⌜ now (s .exit) ≡ replicate (length (now (s .entry))) 0 ⌝ }
+{
+    let mut i = 0;
+    while i < s.len() {
+        s[i] = 0;
+        i += 1;
+    }
+}
+
+// Copies src, cell by cell.
+pub fn copy_cells(src: &[u64], dst: &mut [u64])
+    requires { ⌜ length (now dst) ≡ length (now src) ⌝ }
+    ensures { λ _. ⌜ now (dst .exit) ≡ now (src .entry) ⌝ }
+{
+    for i in 0..src.len() {
+        dst[i] = src[i];
+    }
+}
+
+// Are two columns of n sectors the same?
+pub fn same_cells(n: usize, a: &[u64], b: &[u64]) -> bool
+    requires { ⌜ (length (now a) ≡ n) × (length (now b) ≡ n) ⌝ }
+    ensures { λ r. ⌜ r ≡ same n (now (a .entry)) (now (b .entry)) ⌝ }
+{
+    for i in 0..n {
+        if a[i] != b[i] {
+            return false;
+        }
+    }
+    true
+}
+
+// The coefficient in row i and column j; of the transposed matrix the one in row j and column i.
+pub fn cell_at(n: usize, d: &[u64], transposed: bool, i: usize, j: usize) -> u64
+    requires { ⌜ (length (now d) ≡ n * n) × (i < n) × (j < n) ⌝ }
+    ensures { λ r. ⌜ r ≡ oriented transposed (at n (now (d .entry))) i j ⌝ }
+{
+    if transposed {
+        return d[j * n + i];
+    }
+    d[i * n + j]
+}
+
+// What industry takes of sector i: the weighted sum of the amounts, divided once by one and rounded down.
+pub fn intermediate_use(n: usize, d: &[u64], transposed: bool, amounts: &[u64], i: usize) -> u64
+    requires { ⌜ (length (now d) ≡ n * n) × (length (now amounts) ≡ n) × (i < n) ⌝ }
+    requires { ⌜ weighted n (oriented transposed (at n (now d))) (cell (now amounts)) i ≤ 1520000000000000000 ⌝ }
+    ensures { λ r. ⌜ r ≡ intermediate n (oriented transposed (at n (now (d .entry)))) (cell (now (amounts .entry))) i ⌝ }
+{
+    let mut sum: u64 = 0;
+    for j in 0..n {
+        sum += cell_at(n, d, transposed, i, j) * amounts[j];
+    }
+    sum / 1_000_000
+}
+
+// One round from the amounts of the round before: every sector's start, and what industry takes of it.
+pub fn one_round(
+    n: usize,
+    d: &[u64],
+    transposed: bool,
+    start: &[u64],
+    amounts: &[u64],
+    next: &mut [u64],
+)
+    requires { ⌜ (length (now d) ≡ n * n) × (length (now start) ≡ n) × (length (now amounts) ≡ n) × (length (now next) ≡ n) ⌝ }
+    requires { ⌜ ((i : ℕ) → i < n → cell (now start) i ≤ demandLimit) ⌝ }
+    requires { ⌜ ((i : ℕ) → i < n → weighted n (oriented transposed (at n (now d))) (cell (now amounts)) i ≤ 1520000000000000000) ⌝ }
+    ensures { λ _. ⌜ now (next .exit) ≡ round n (oriented transposed (at n (now (d .entry)))) (now (start .entry)) (now (amounts .entry)) ⌝ }
+{
+    for i in 0..n {
+        next[i] = start[i] + intermediate_use(n, d, transposed, amounts, i);
+    }
+}
