@@ -102,6 +102,10 @@ pub and-true : (a b : Bool) → a && b ≡ true → (a ≡ true) × (b ≡ true)
 and-true true b e = (refl, e)
 and-true false b e = absurd (false≢true e)
 
+pub and-last : (b : Bool) → b ≡ b && true
+and-last true = refl
+and-last false = refl
+
 pub same-equal : (n : ℕ) (a b : List ℕ) → same n a b ≡ true → Equal n a b
 same-equal zero a b e = λ i h. absurd (not-suc-le-zero h)
 same-equal (suc n) a b e =

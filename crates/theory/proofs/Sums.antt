@@ -1,12 +1,15 @@
 -- Sums and largest terms. Assumes nothing.
 use mathlib.Core.Path.{_≡_, refl, sym, _∙_, ap, ap₂, subst⁻¹}
 use mathlib.Core.Logic.{_⊎_, inl, inr}
-use Prim.Native.Nat.{ℕ, zero, suc, _+_, _*_, _≤_, _<_, zero-le}
+use mathlib.Core.Bool.{true, false}
+use Prim.Native.Nat.{ℕ, zero, suc, _+_, _*_, _-_, _≤_, _<_, zero-le}
 use native.Mathlib.Omega.{arith}
 use native.Mathlib.Decide.{le-ind}
 use native.Mathlib.Nat.{le-refl, le-trans, le-step, le-antisymm, lt-suc-self, le-of-suc-le-suc, not-suc-le-zero, eq-or-lt-of-le, le-add-left, le-add-right, zero-mul, mul-zero, max-le, le-max-left, le-max-right}
 use native.Mathlib.Numerals.{add-one}
+use borrow.Author.Tests.{le-leb, lt-leb}
 use lib.Arith.{digits-lt}
+use lib.Dec.{leb}
 use Rattle.model.specs.Numbers.{one, sum, largest}
 
 -- what holds below n and at n holds below n + 1
@@ -64,6 +67,13 @@ sum-room f j n s e h = rw e (sum-part (suc j) n f h)
 
 pub sum-done : (f : ℕ → ℕ) (j n s : ℕ) → s ≡ sum j f → j ≤ n → n ≤ j → s ≡ sum n f
 sum-done f j n s e h g = e ∙ ap (λ (k : ℕ). sum k f) (le-antisymm h g)
+
+-- where the next term leaves no room below a limit the whole is over it; where all of it has room it is not
+pub sum-over : (f : ℕ → ℕ) (j n s limit : ℕ) → s ≡ sum j f → j < n → limit - s < f j → leb (sum n f) limit ≡ false
+sum-over f j n s limit e h g = lt-leb (sum n f) limit (omega (arith, sum-room f j n s e h))
+
+pub sum-under : (f : ℕ → ℕ) (j n s limit : ℕ) → s ≡ sum j f → j ≤ n → n ≤ j → s ≤ limit → leb (sum n f) limit ≡ true
+sum-under f j n s limit e h h′ g = le-leb (sum n f) limit (omega (arith, sum-done f j n s e h h′))
 
 -- ---- the largest
 pub largest-le : (n : ℕ) {f : ℕ → ℕ} {b : ℕ} → ((i : ℕ) → i < n → f i ≤ b) → largest n f ≤ b

@@ -8,10 +8,10 @@ use borrow.Author.Tests.{lt-ltb, le-ltb, ltb-false, le-leb, leb-true, eq-eqb, eq
 use lib.Dec.{ltb, leb, eqb}
 use lib.ListN.{length}
 use Rattle.model.specs.Numbers.{sum, first, all, at, transposed}
-use Rattle.model.specs.Checks.{Report, Check, refuses, verdict}
+use Rattle.model.specs.Checks.{Report, Check, refuses, verdict, single}
 use Rattle.model.specs.Calls.{matrixChecks}
 use Rattle.model.specs.Promises.{AcceptedMatrix}
-use Rattle.theory.proofs.Lists.{All, first-here, first-none, first-before, and-true}
+use Rattle.theory.proofs.Lists.{All, all-none, first-here, first-none, first-before, and-true}
 
 -- a check passes at all its places, and all checks of a list do
 abbrev pub Passes : Check → Type 0
@@ -29,6 +29,14 @@ module _ (q : Check) (qs : List Check) (k : ℕ) where
   -- one that fails gives its number and its first failing place
   pub failed : (i : ℕ) → i < q .places → All (q .passes) i → q .passes i ≡ false → verdict (q ∷ qs) k ≡ refuses (q .number) i
   failed i h before here = rw (first-here (q .places) (q .passes) i h before here, lt-ltb i (q .places) h)
+
+-- a check with one place
+module _ (number : ℕ) {b : Bool} (qs : List Check) (k : ℕ) where
+  pub single-passed : b ≡ true → verdict (single number b ∷ qs) k ≡ verdict qs k
+  single-passed e = passed (single number b) qs k 1 (le-refl 1) (λ _ _. e)
+
+  pub single-failed : b ≡ false → verdict (single number b ∷ qs) k ≡ refuses number 0
+  single-failed e = failed (single number b) qs k 0 (le-refl 1) (all-none (λ _. b)) e
 
 -- where a list of checks accepts, all of them pass
 pub accepted-all : (qs : List Check) (k : ℕ) → verdict qs k .accepted ≡ true → AllPass qs

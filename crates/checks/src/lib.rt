@@ -1,0 +1,135 @@
+// The checks of document 01 as scans over lent slices. Each answers its number and its first failing place, or that it passes.
+use cells::intermediate_use;
+use model::Answer;
+ghost use mathlib.Core.Bool.{_&&_};
+ghost use mathlib.Core.List.{List, [], _∷_};
+ghost use mathlib.Core.Path.{_≡_};
+ghost use Prim.Native.Nat.{ℕ, _*_, _<_, _≤_};
+ghost use lib.Dec.{eqb, leb};
+ghost use lib.ListN.{length};
+ghost use Rattle.model.specs.Numbers.{all, at, cell};
+ghost use Rattle.model.specs.Rounds.{weighted};
+ghost use Rattle.model.specs.Checks.{report, verdict, columnSums, starts, productionTotal, demandLeft};
+ghost use Rattle.model.specs.Calls.{matrixChecks};
+
+// Question 1: is n from 1 to 40?
+fn is_sized(n: usize) -> bool
+    ensures { λ r. ⌜ r ≡ leb 1 n && leb n 40 ⌝ }
+{
+    if n < 1 {
+        return false;
+    }
+    n <= 40
+}
+
+// Question 2, of two slices of n cells: has each its exact length?
+pub fn have_length(n: usize, a: usize, b: usize) -> bool
+    ensures { λ r. ⌜ r ≡ all (eqb n) (a ∷ b ∷ []) ⌝ }
+{
+    if n != a {
+        return false;
+    }
+    n == b
+}
+
+// Question 7: is every column sum at most 950,000? A column is left at the first cell that takes its sum over.
+pub fn columns_within(n: usize, d: &[u64]) -> Answer
+    requires { ⌜ length (now d) ≡ n * n ⌝ }
+    ensures { λ r. ⌜ report r ≡ verdict (columnSums n (at n (now (d .entry))) ∷ []) 0 ⌝ }
+{
+    let mut j = 0;
+    'scan: loop {
+        if n <= j {
+            break 'scan Answer::Accepted;
+        }
+        let mut sum: u64 = 0;
+        for i in 0..n {
+            let coefficient = d[i * n + j];
+            if 950_000 - sum < coefficient {
+                break 'scan Answer::Refused {
+                    number: 7,
+                    place: j,
+                };
+            }
+            sum += coefficient;
+        }
+        j += 1;
+    }
+}
+
+// Questions 1, 2 and 7. `fit` says whether the slices of n cells have their length.
+pub fn check_matrix(n: usize, d: &[u64], fit: bool) -> Answer
+    ensures { λ r. ⌜ ((lent : List ℕ) → fit ≡ all (eqb n) lent → report r ≡ verdict (matrixChecks n (now (d .entry)) [] lent) 0) ⌝ }
+{
+    if !is_sized(n) {
+        return Answer::Refused {
+            number: 1,
+            place: 0,
+        };
+    }
+    if n * n != d.len() {
+        return Answer::Refused {
+            number: 2,
+            place: 0,
+        };
+    }
+    if !fit {
+        return Answer::Refused {
+            number: 2,
+            place: 0,
+        };
+    }
+    columns_within(n, d)
+}
+
+// Question 8 of a demand for domestic goods or a direct rise: is every amount at most the limit?
+pub fn starts_within(n: usize, s: &[u64], limit: u64) -> Answer
+    requires { ⌜ length (now s) ≡ n ⌝ }
+    ensures { λ r. ⌜ report r ≡ verdict (starts n limit (now (s .entry)) ∷ []) 0 ⌝ }
+{
+    for i in 0..n {
+        if limit < s[i] {
+            return Answer::Refused {
+                number: 8,
+                place: i,
+            };
+        }
+    }
+    Answer::Accepted
+}
+
+// Question 8 of a given production: is the running total at most 1,600,000,000,000 in every sector?
+pub fn total_within(n: usize, y: &[u64]) -> Answer
+    requires { ⌜ length (now y) ≡ n ⌝ }
+    ensures { λ r. ⌜ report r ≡ verdict (productionTotal n (now (y .entry)) ∷ []) 0 ⌝ }
+{
+    let mut total: u64 = 0;
+    for i in 0..n {
+        let amount = y[i];
+        if 1_600_000_000_000 - total < amount {
+            return Answer::Refused {
+                number: 8,
+                place: i,
+            };
+        }
+        total += amount;
+    }
+    Answer::Accepted
+}
+
+// Question 10: does the production leave every sector's demand at 0 or above?
+pub fn demand_left(n: usize, d: &[u64], y: &[u64]) -> Answer
+    requires { ⌜ (length (now d) ≡ n * n) × (length (now y) ≡ n) ⌝ }
+    requires { ⌜ ((i : ℕ) → i < n → weighted n (at n (now d)) (cell (now y)) i ≤ 1520000000000000000) ⌝ }
+    ensures { λ r. ⌜ report r ≡ verdict (demandLeft n (at n (now (d .entry))) (now (y .entry)) ∷ []) 0 ⌝ }
+{
+    for i in 0..n {
+        if y[i] < intermediate_use(n, d, false, y, i) {
+            return Answer::Refused {
+                number: 10,
+                place: i,
+            };
+        }
+    }
+    Answer::Accepted
+}
