@@ -7,5 +7,6 @@ pub mod Rounds
 pub mod Settling
 pub mod Accuracy
 pub mod Verdicts
+pub mod Answers
 pub mod Promises
 pub mod Balances

@@ -1,6 +1,6 @@
 -- Lists written from the front, lists made by a rule, searches, and the test for sameness. Assumes nothing.
 use mathlib.Core.Bool.{Bool, true, false, _&&_, false≢true}
-use mathlib.Core.List.{List}
+use mathlib.Core.List.{List, _∷_}
 use mathlib.Core.Path.{_≡_, refl, sym, ap, _∙_}
 use Prim.Native.Nat.{ℕ, zero, suc, _+_, _<_, _≤_, suc-le-suc}
 use native.Mathlib.Nat.{not-suc-le-zero, le-of-suc-le-suc, le-step, lt-suc-self, zero-lt-suc, ne-of-lt, lt-of-lt-of-le, le-refl}
@@ -10,7 +10,7 @@ use borrow.Author.Tests.{eq-eqb, eqb-true}
 use lib.Dec.{eqb}
 use lib.ListN.{length, set, replicate, length-replicate, getD-replicate}
 use lib.Seq.{ext-getD, getD-set-same, getD-set-other}
-use Rattle.model.specs.Numbers.{first, tabulate, cell, same}
+use Rattle.model.specs.Numbers.{first, all, tabulate, cell, same}
 use Rattle.model.specs.Promises.{Equal}
 use Rattle.theory.proofs.Sums.{upto}
 
@@ -101,6 +101,10 @@ first-fails (suc n) p h = split (p 0) refl h (first-fails n (λ i. p (suc i)))
 pub and-true : (a b : Bool) → a && b ≡ true → (a ≡ true) × (b ≡ true)
 and-true true b e = (refl, e)
 and-true false b e = absurd (false≢true e)
+
+-- every length of a list is n
+pub all-equal : (n x : ℕ) (xs : List ℕ) → all (eqb n) (x ∷ xs) ≡ true → (x ≡ n) × (all (eqb n) xs ≡ true)
+all-equal n x xs e = let p = and-true (eqb n x) (all (eqb n) xs) e in (sym (eqb-true n x (p .0)), p .1)
 
 pub and-last : (b : Bool) → b ≡ b && true
 and-last true = refl

@@ -1,7 +1,7 @@
 -- What the papers promise of an accepted domestic matrix. Production goes along its rows, by the total; prices down its columns, by the
 -- largest; each is an instance of one law over a gauge. Assumes nothing.
 use mathlib.Core.Path.{_≡_, refl, sym, _∙_}
-use mathlib.Core.Bool.{true}
+use mathlib.Core.Bool.{Bool, true, false}
 use mathlib.Core.List.{List, [], _∷_}
 use Prim.Native.Nat.{ℕ, suc, _≤_, _<_}
 use native.Mathlib.Omega.{arith}
@@ -9,7 +9,7 @@ use native.Mathlib.Nat.{le-refl, le-trans}
 use borrow.Author.Tests.{le-leb, leb-true, eq-eqb, eqb-true}
 use lib.Dec.{eqb}
 use lib.ListN.{length}
-use Rattle.model.specs.Numbers.{sum, largest, all, at, cell, transposed}
+use Rattle.model.specs.Numbers.{sum, largest, all, at, cell, transposed, oriented}
 use Rattle.model.specs.Rounds.{weighted, intermediate, rounds, Settles, shortfall, settling, settled, impliedDemand}
 use Rattle.model.specs.Checks.{accepts, verdict, demandLimit, settles, productionTotal, demandLeft}
 use Rattle.model.specs.Calls.{matrixChecks, settlingChecks, productionReport, impliedReport}
@@ -18,9 +18,9 @@ use Rattle.theory.proofs.Sums.{sum-mono, sum-const, sum-part, sum-cell,
 use Rattle.theory.proofs.Lists.{and-true}
 use Rattle.theory.proofs.Gauge.{total-gauge, largest-gauge}
 use Rattle.theory.proofs.Rounds.{equal-starts, settles-fixed, settles-length, lowest, implied-cell, forward-back}
-use Rattle.theory.proofs.Settling.{counted}
 use Rattle.theory.proofs.Accuracy.{not-above, lacks-less, rounds-bounded, weighted-bounded}
-use Rattle.theory.proofs.Verdicts.{accepted-all, pass-on, accepted-matrix, matrix-accepted}
+use Rattle.theory.proofs.Verdicts.{pass-on, matrix-accepted}
+use Rattle.theory.proofs.Answers.{Started, accepted-settled}
 
 module _ {n : ℕ} {d : List ℕ} (A : AcceptedMatrix n d) where
   -- Demand 3, first half: equal productions exactly from equal demands, whatever the demands
@@ -49,18 +49,23 @@ module _ {n : ℕ} {d : List ℕ} (A : AcceptedMatrix n d) where
     total-small : sum n (cell s) ≤ 80000000000
     total-small = let few = A .few in omega (arith, sum-mono n small, sum-const n demandLimit)
 
-    pub production-fits : (k i : ℕ) → i < n → weighted n (at n d) (cell (rounds n (at n d) s k)) i ≤ 1520000000000000000
+    production-fits : (k i : ℕ) → i < n → weighted n (at n d) (cell (rounds n (at n d) s k)) i ≤ 1520000000000000000
     production-fits k i h =
         let t = total-small in
         omega (arith, weighted-bounded n (at n d) (sum n) n (total-gauge n (at n d) (A .low)) s k i h)
 
-    pub price-fits : (k i : ℕ) → i < n → weighted n (transposed (at n d)) (cell (rounds n (transposed (at n d)) s k)) i ≤ 1520000000000000000
+    price-fits : (k i : ℕ) → i < n → weighted n (transposed (at n d)) (cell (rounds n (transposed (at n d)) s k)) i ≤ 1520000000000000000
     price-fits k i h =
         omega (
           arith,
           weighted-bounded n (transposed (at n d)) (largest n) 1 (largest-gauge n (at n d) (A .low)) s k i h,
           largest-le n small,
         )
+
+    pub rounds-fit : (t : Bool) (k i : ℕ) → i < n
+        → weighted n (oriented t (at n d)) (cell (rounds n (oriented t (at n d)) s k)) i ≤ 1520000000000000000
+    rounds-fit true = price-fits
+    rounds-fit false = production-fits
 
     -- and the total of a round is one that question 8 lets pass
     pub total-fits : (k : ℕ) → sum n (cell (rounds n (at n d) s k)) ≤ 1600000000000
@@ -82,45 +87,29 @@ pub not-above-given : (n : ℕ) (d y : List ℕ) → ((i : ℕ) → i < n → in
 not-above-given n d y p z k σ =
     lowest n (at n d) σ (cell y) (λ i h. omega (arith, p i h, implied-cell n (at n d) y i h))
 
--- what an accepted call of production or price says of its slices and its rounds
-pub record Settled (n : ℕ) (d : List ℕ) (c : ℕ → ℕ → ℕ) (limit : ℕ) (s : List ℕ) (budget : ℕ) : Type 0 where
-  pub matrix : AcceptedMatrix n d
-  pub start : length s ≡ n
-  pub small : (i : ℕ) → i < n → cell s i ≤ limit
-  pub settles : Settles n c s (settling n c s budget) (settled n c s budget)
-
-pub accepted-settled : (n : ℕ) (d : List ℕ) (c : ℕ → ℕ → ℕ) (limit : ℕ) (s : List ℕ) (budget : ℕ) (lent : List ℕ) (k : ℕ)
-    → verdict (settlingChecks n d c limit s budget lent) k .accepted ≡ true → Settled n d c limit s budget
-accepted-settled n d c limit s budget lent k a =
-    let p = accepted-all (settlingChecks n d c limit s budget lent) k a in
-    let m = accepted-matrix n d [] (length s ∷ lent) (p .0, (p .1 .0, (p .1 .1 .0, tt))) in
-    record {
-      matrix = m .0;
-      start = sym (eqb-true n (length s) (and-true (eqb n (length s)) (all (eqb n) lent) (m .1) .0));
-      small = λ i h. leb-true (cell s i) limit (p .1 .1 .1 .0 i h);
-      settles = counted n c s budget (leb-true (settling n c s budget) budget (p .1 .1 .1 .1 .0 0 (le-refl 1)));
-    }
-
 -- Demand 2: where production is accepted, going back from what it gives is accepted too, and returns the demand
 pub forward-then-back : (n : ℕ) (d f : List ℕ) (budget : ℕ) (lent : List ℕ) → productionReport n d f budget lent .accepted ≡ true
     → (impliedReport n d (settled n (at n d) f budget) (n ∷ []) ≡ accepts 0) × (impliedDemand n (at n d) (settled n (at n d) f budget) ≡ f)
 unfolding productionReport impliedReport settled
 forward-then-back n d f budget lent a = (
   pass-on (matrixChecks n d [] (length y ∷ n ∷ [])) (productionTotal n y ∷ demandLeft n (at n d) y ∷ []) 0
-      (matrix-accepted n d [] (length y ∷ n ∷ []) (s .matrix) refl (rw (eq-eqb n (length y) (sym (settles-length n (at n d) (s .start) (s .settles))), eq-eqb n n refl)))
+      (matrix-accepted n d [] (length y ∷ n ∷ []) (s .matrix) refl (rw (eq-eqb n (length y) (sym (settles-length n (at n d) (s .start) σ)), eq-eqb n n refl)))
       ∙ pass-on (productionTotal n y ∷ demandLeft n (at n d) y ∷ []) [] 0
       (λ i h. le-leb _ _ (le-trans (sum-part (suc i) n (cell y) h) total), (λ i h. le-leb _ _ (left i h), tt)),
-  returns n d y f (settling n (at n d) f budget) (s .start) (s .settles),
+  returns n d y f (settling n (at n d) f budget) (s .start) σ,
 )
   where
     y : List ℕ
     y = settled n (at n d) f budget
 
-    s : Settled n d (at n d) demandLimit f budget
-    s = accepted-settled n d (at n d) demandLimit f budget lent (settling n (at n d) f budget) a
+    s : Started n d demandLimit f lent
+    s = accepted-settled n d (at n d) demandLimit f budget lent a .0
+
+    σ : Settles n (at n d) f (settling n (at n d) f budget) y
+    σ = accepted-settled n d (at n d) demandLimit f budget lent a .1
 
     total : sum n (cell y) ≤ 1600000000000
     total = total-fits (s .matrix) f (s .small) (settling n (at n d) f budget)
 
     left : (i : ℕ) → i < n → intermediate n (at n d) (cell y) i ≤ cell y i
-    left i h = omega (arith, settles-fixed n (at n d) (s .settles) i h)
+    left i h = omega (arith, settles-fixed n (at n d) σ i h)

@@ -61,19 +61,17 @@ module _ (n : ℕ) (c : ℕ → ℕ → ℕ) (s : List ℕ) where
     not-found p = first-none (suc budget) (suc budget) (changes n c s) (le-refl (suc budget)) p
 
   -- one turn of a settling loop, from the amounts y after k rounds, each of which changed a sector, to the amounts z of the next
-  module _ (k : ℕ) (y z : List ℕ) (e : y ≡ rounds n c s k) (f : z ≡ round n c s y) (before : All (changes n c s) (k + 1)) where
-    pub turn-amounts : z ≡ rounds n c s (k + 1)
+  module _ (k : ℕ) (y : List ℕ) (e : y ≡ rounds n c s k) (before : All (changes n c s) (k + 1)) where
+    pub turn-amounts : {z : List ℕ} → z ≡ round n c s y → z ≡ rounds n c s (k + 1)
     unfolding rounds
-    turn-amounts = rw add-one (f ∙ ap (round n c s) e)
+    turn-amounts f = rw add-one (f ∙ ap (round n c s) e)
 
-    turn-changes : (t : Bool) → t ≡ same n z y → changes n c s (k + 1) ≡ not t
-    unfolding changes
-    turn-changes t g =
-        let a : z ≡ rounds n c s (suc k) = rw add-one at turn-amounts in
-        rw (add-one, ← a, ← e, ← g)
+    turn-changes : {t : Bool} → t ≡ same n (round n c s y) y → changes n c s (k + 1) ≡ not t
+    unfolding changes rounds
+    turn-changes g = rw (add-one, ← e, ← g)
 
-    pub turn-settles : true ≡ same n z y → Settles n c s (k + 1) z
-    turn-settles g = record { unchanged = turn-changes true g; earlier = before; amounts = turn-amounts }
+    pub turn-settles : {z : List ℕ} → z ≡ round n c s y → true ≡ same n (round n c s y) y → Settles n c s (k + 1) z
+    turn-settles f g = record { unchanged = turn-changes g; earlier = before; amounts = turn-amounts f }
 
-    pub turn-more : false ≡ same n z y → All (changes n c s) (k + 1 + 1)
-    turn-more g = rw (add-one (k + 1)) (upto before (turn-changes false g))
+    pub turn-more : false ≡ same n (round n c s y) y → All (changes n c s) (k + 1 + 1)
+    turn-more g = rw (add-one (k + 1)) (upto before (turn-changes g))

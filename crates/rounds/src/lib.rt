@@ -1,0 +1,140 @@
+// Production from demand, prices from direct rises, and demand from production.
+use cells::copy_cells;
+use cells::fill_zero;
+use cells::one_round;
+use cells::same_cells;
+use checks::check_matrix;
+use checks::have_length;
+use checks::starts_within;
+use model::Answer;
+use model::Outcome;
+ghost use mathlib.Core.Bool.{true, false};
+ghost use mathlib.Core.List.{List, [], _∷_, _++_};
+ghost use mathlib.Core.Path.{_≡_};
+ghost use Prim.Native.Nat.{ℕ, _*_, _<_, _≤_};
+ghost use lib.Dec.{eqb};
+ghost use lib.ListN.{length, replicate};
+ghost use Rattle.model.specs.Numbers.{all, at, cell, oriented, same};
+ghost use Rattle.model.specs.Rounds.{round, settled, settling, weighted, Settles};
+ghost use Rattle.model.specs.Checks.{report, reportRounds, verdict, output, single, settles, starts, demandLimit};
+ghost use Rattle.model.specs.Calls.{matrixChecks, settlingReport};
+ghost use Rattle.model.specs.Promises.{AcceptedMatrix};
+
+// One round more, from `out` to `out`. Answers whether it changed no sector.
+fn turn(n: usize, d: &[u64], transposed: bool, start: &[u64], out: &mut [u64], work: &mut [u64]) -> bool
+    requires { ⌜ (length (now d) ≡ n * n) × (length (now start) ≡ n) × (length (now out) ≡ n) × (length (now work) ≡ n) ⌝ }
+    requires { ⌜ ((i : ℕ) → i < n → cell (now start) i ≤ demandLimit) ⌝ }
+    requires { ⌜ ((i : ℕ) → i < n → weighted n (oriented transposed (at n (now d))) (cell (now out)) i ≤ 1520000000000000000) ⌝ }
+    ensures { λ r. ⌜ r ≡ same n (round n (oriented transposed (at n (now (d .entry)))) (now (start .entry)) (now (out .entry))) (now (out .entry)) ⌝ }
+    ensures { λ _. ⌜ now (out .exit) ≡ round n (oriented transposed (at n (now (d .entry)))) (now (start .entry)) (now (out .entry)) ⌝ }
+{
+    one_round(n, d, transposed, start, out, work);
+    let unchanged = same_cells(n, work, out);
+    copy_cells(work, out);
+    unchanged
+}
+
+// The settling loop: rounds from the start, which `out` holds, until one changes no sector. The count that it returns with the amounts is
+// the least settling index, and is never above the budget; without one it refuses with 9.
+fn run_rounds(
+    n: usize,
+    d: &[u64],
+    transposed: bool,
+    start: &[u64],
+    budget: u32,
+    out: &mut [u64],
+    work: &mut [u64],
+) -> Outcome
+    requires { ⌜ AcceptedMatrix n (now d) × (length (now start) ≡ n) × (now out ≡ now start) × (length (now work) ≡ n) ⌝ }
+    requires { ⌜ ((i : ℕ) → i < n → cell (now start) i ≤ demandLimit) ⌝ }
+    ensures { λ r. ⌜ reportRounds r ≡ verdict (single 9 (settles n (oriented transposed (at n (now (d .entry)))) (now (start .entry)) budget) ∷ []) (settling n (oriented transposed (at n (now (d .entry)))) (now (start .entry)) budget) ⌝ }
+    ensures { λ r. ⌜ (reportRounds r .accepted ≡ true → Settles n (oriented transposed (at n (now (d .entry)))) (now (start .entry)) (reportRounds r .rounds) (now (out .exit)) × (reportRounds r .rounds ≤ budget)) ⌝ }
+{
+    let mut done: u32 = 0;
+    while done < budget {
+        let unchanged = turn(n, d, transposed, start, out, work);
+        done += 1;
+        if unchanged {
+            return Outcome::Settled { rounds: done };
+        }
+    }
+    Outcome::Refused {
+        number: 9,
+        place: 0,
+    }
+}
+
+// The settled amounts of a start, or number 9 with the outputs at 0; the work cells are cleared.
+fn settle(
+    n: usize,
+    d: &[u64],
+    transposed: bool,
+    start: &[u64],
+    budget: u32,
+    out: &mut [u64],
+    work: &mut [u64],
+) -> Outcome
+    requires { ⌜ AcceptedMatrix n (now d) × (length (now start) ≡ n) × (length (now out) ≡ n) × (length (now work) ≡ n) ⌝ }
+    requires { ⌜ ((i : ℕ) → i < n → cell (now start) i ≤ demandLimit) ⌝ }
+    ensures { λ r. ⌜ reportRounds r ≡ verdict (single 9 (settles n (oriented transposed (at n (now (d .entry)))) (now (start .entry)) budget) ∷ []) (settling n (oriented transposed (at n (now (d .entry)))) (now (start .entry)) budget) ⌝ }
+    ensures { λ r. ⌜ now (out .exit) ≡ output (reportRounds r) n (settled n (oriented transposed (at n (now (d .entry)))) (now (start .entry)) budget) ⌝ }
+    ensures { λ _. ⌜ now (work .exit) ≡ replicate n 0 ⌝ }
+{
+    copy_cells(start, out);
+    let outcome = run_rounds(n, d, transposed, start, budget, out, work);
+    fill_zero(work);
+    if let Outcome::Refused { number, place } = outcome {
+        fill_zero(out);
+        return Outcome::Refused { number, place };
+    }
+    outcome
+}
+
+// Question 2 of the slices of n cells that production and price are lent.
+fn lent_fit(n: usize, start_len: usize, out_len: usize, work_len: usize) -> bool
+    ensures { λ r. ⌜ r ≡ all (eqb n) («start_len» ∷ «out_len» ∷ «work_len» ∷ []) ⌝ }
+{
+    if n != start_len {
+        return false;
+    }
+    have_length(n, out_len, work_len)
+}
+
+// Questions 1, 2, 7 and 8 of a start and its limit.
+fn check_start(n: usize, d: &[u64], limit: u64, start: &[u64], out_len: usize, work_len: usize) -> Answer
+    ensures { λ r. ⌜ report r ≡ verdict (matrixChecks n (now (d .entry)) [] (length (now (start .entry)) ∷ «out_len» ∷ «work_len» ∷ []) ++ (starts n limit (now (start .entry)) ∷ [])) 0 ⌝ }
+{
+    let fit = lent_fit(n, start.len(), out_len, work_len);
+    let matrix = check_matrix(n, d, fit);
+    if let Answer::Refused { number, place } = matrix {
+        return Answer::Refused { number, place };
+    }
+    starts_within(n, start, limit)
+}
+
+// Asks 1, 2, 7, 8 and 9, and settles the rounds along the rows or, transposed, down the columns.
+fn solve(
+    n: usize,
+    d: &[u64],
+    transposed: bool,
+    limit: u64,
+    start: &[u64],
+    budget: u32,
+    out: &mut [u64],
+    work: &mut [u64],
+) -> Outcome
+    requires { ⌜ limit ≤ demandLimit ⌝ }
+    ensures { λ r. ⌜ reportRounds r ≡ settlingReport n (now (d .entry)) (oriented transposed (at n (now (d .entry)))) limit (now (start .entry)) budget (length (now (out .entry)) ∷ length (now (work .entry)) ∷ []) ⌝ }
+    ensures { λ r. ⌜ now (out .exit) ≡ output (reportRounds r) (length (now (out .entry))) (settled n (oriented transposed (at n (now (d .entry)))) (now (start .entry)) budget) ⌝ }
+    ensures { λ _. ⌜ now (work .exit) ≡ replicate (length (now (work .entry))) 0 ⌝ }
+{
+    let checked = check_start(n, d, limit, start, out.len(), work.len());
+    match checked {
+        Answer::Refused { number, place } => {
+            fill_zero(out);
+            fill_zero(work);
+            Outcome::Refused { number, place }
+        }
+        Answer::Accepted => settle(n, d, transposed, start, budget, out, work),
+    }
+}

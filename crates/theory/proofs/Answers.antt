@@ -1,0 +1,58 @@
+-- What the checks of production and price say of their slices, and what question 9 says of the rounds. Assumes nothing.
+use mathlib.Core.Path.{_≡_, refl, sym, ap, _∙_}
+use mathlib.Core.Bool.{true, false}
+use mathlib.Core.List.{List, [], _∷_, _++_}
+use Prim.Native.Nat.{ℕ, suc, _≤_, _<_}
+use native.Mathlib.Nat.{le-refl}
+use borrow.Author.Tests.{le-leb, lt-leb, leb-true}
+use lib.Dec.{eqb}
+use lib.ListN.{length}
+use Rattle.model.specs.Numbers.{all, cell}
+use Rattle.model.specs.Rounds.{changes, settling, settled, Settles}
+use Rattle.model.specs.Checks.{accepts, refuses, verdict, starts, single, settles}
+use Rattle.model.specs.Calls.{matrixChecks, settlingChecks, settlingReport}
+use Rattle.model.specs.Promises.{AcceptedMatrix}
+use Rattle.theory.proofs.Lists.{All, all-equal}
+use Rattle.theory.proofs.Settling.{counted, found, not-found}
+use Rattle.theory.proofs.Verdicts.{AllPass, accepted-all, pass-on, refuse-on, accepted-matrix, single-passed, single-failed}
+
+-- questions 1, 2, 7 and 8 pass
+pub record Started (n : ℕ) (d : List ℕ) (limit : ℕ) (s lent : List ℕ) : Type 0 where
+  pub matrix : AcceptedMatrix n d
+  pub start : length s ≡ n
+  pub slices : all (eqb n) lent ≡ true
+  pub small : (i : ℕ) → i < n → cell s i ≤ limit
+
+module _ (n : ℕ) (d : List ℕ) (limit : ℕ) (s lent : List ℕ) where
+  started : AllPass (matrixChecks n d [] (length s ∷ lent) ++ (starts n limit s ∷ [])) → Started n d limit s lent
+  started (p, (q, (r, (t, _)))) =
+      let m = accepted-matrix n d [] (length s ∷ lent) (p, (q, (r, tt))) in
+      let l = all-equal n (length s) lent (m .1) in
+      record { matrix = m .0; start = l .0; slices = l .1; small = λ i h. leb-true (cell s i) limit (t i h) }
+
+  pub accepted-start : verdict (matrixChecks n d [] (length s ∷ lent) ++ (starts n limit s ∷ [])) 0 ≡ accepts 0 → Started n d limit s lent
+  accepted-start e = started (accepted-all (matrixChecks n d [] (length s ∷ lent) ++ (starts n limit s ∷ [])) 0 (ap (λ r. r .accepted) e))
+
+module _ (n : ℕ) (d : List ℕ) (c : ℕ → ℕ → ℕ) (limit : ℕ) (s : List ℕ) (budget : ℕ) where
+  -- an accepted call: what its checks say, and that the rounds settle at what it gives
+  pub accepted-settled : (lent : List ℕ) → settlingReport n d c limit s budget lent .accepted ≡ true
+      → Started n d limit s lent × Settles n c s (settling n c s budget) (settled n c s budget)
+  accepted-settled lent a =
+      let p = accepted-all (settlingChecks n d c limit s budget lent) (settling n c s budget) a in (
+        started n d limit s lent (p .0, (p .1 .0, (p .1 .1 .0, (p .1 .1 .1 .0, tt)))),
+        counted n c s budget (leb-true (settling n c s budget) budget (p .1 .1 .1 .1 .0 0 (le-refl 1))),
+      )
+
+module _ (n : ℕ) (c : ℕ → ℕ → ℕ) (s : List ℕ) (budget : ℕ) where
+  -- question 9 at a round that settles within the budget, and where none does
+  pub nine-passed : {k : ℕ} {y : List ℕ} → Settles n c s k y → k ≤ budget
+      → accepts k ≡ verdict (single 9 (settles n c s budget) ∷ []) (settling n c s budget)
+  nine-passed {k} σ h =
+      let e = found n c s budget σ h .0 in
+      let t : settles n c s budget ≡ true = rw e (le-leb k budget h) in
+      sym (single-passed 9 [] (settling n c s budget) t ∙ ap accepts e)
+
+  pub nine-failed : All (changes n c s) (suc budget) → refuses 9 0 ≡ verdict (single 9 (settles n c s budget) ∷ []) (settling n c s budget)
+  nine-failed p =
+      let t : settles n c s budget ≡ false = rw (not-found n c s budget p) (lt-leb (suc budget) budget (le-refl (suc budget))) in
+      sym (single-failed 9 [] (settling n c s budget) t)
