@@ -8,17 +8,17 @@ use checks::have_length;
 use checks::starts_within;
 use model::Answer;
 use model::Outcome;
-ghost use mathlib.Core.Bool.{true, false};
+ghost use mathlib.Core.Bool.{true};
 ghost use mathlib.Core.List.{List, [], _∷_, _++_};
 ghost use mathlib.Core.Path.{_≡_};
 ghost use Prim.Native.Nat.{ℕ, _*_, _<_, _≤_};
 ghost use lib.Dec.{eqb};
 ghost use lib.ListN.{length, replicate};
-ghost use Rattle.model.specs.Numbers.{all, at, cell, oriented, same};
+ghost use Rattle.model.specs.Numbers.{all, at, cell, oriented, same, transposed};
 ghost use Rattle.model.specs.Rounds.{round, settled, settling, weighted, Settles};
 ghost use Rattle.model.specs.Checks.{report, reportRounds, verdict, output, single, settles, starts, demandLimit};
-ghost use Rattle.model.specs.Calls.{matrixChecks, settlingReport};
-ghost use Rattle.model.specs.Promises.{AcceptedMatrix};
+ghost use Rattle.model.specs.Calls.{matrixChecks, priceReport, productionReport, settlingReport};
+ghost use Rattle.model.specs.Promises.{AcceptedMatrix, Accurate, AccuratePrices, Distinguishes};
 
 // One round more, from `out` to `out`. Answers whether it changed no sector.
 fn turn(n: usize, d: &[u64], transposed: bool, start: &[u64], out: &mut [u64], work: &mut [u64]) -> bool
@@ -137,4 +137,42 @@ fn solve(
         }
         Answer::Accepted => settle(n, d, transposed, start, budget, out, work),
     }
+}
+
+// Production from a demand for domestic goods. No result is left open: number, place, count and every lent cell are those of the definitions.
+// Demand 3 is carried by the last two clauses: an accepted production differs from that of every other demand, and only from those; and
+// against every exact balance it is nowhere too high, and all sectors together lack less than 20 × n.
+pub fn production(
+    n: usize,
+    d: &[u64],
+    f: &[u64],
+    budget: u32,
+    out: &mut [u64],
+    work: &mut [u64],
+) -> Outcome
+    ensures answer { λ r. ⌜ reportRounds r ≡ productionReport n (now (d .entry)) (now (f .entry)) budget (length (now (out .entry)) ∷ length (now (work .entry)) ∷ []) ⌝ }
+    ensures outputs { λ r. ⌜ now (out .exit) ≡ output (reportRounds r) (length (now (out .entry))) (settled n (at n (now (d .entry))) (now (f .entry)) budget) ⌝ }
+    ensures cleared { λ _. ⌜ now (work .exit) ≡ replicate (length (now (work .entry))) 0 ⌝ }
+    ensures distinct { λ r. ⌜ (reportRounds r .accepted ≡ true → Distinguishes n (now (d .entry)) (now (f .entry)) (now (out .exit))) ⌝ }
+    ensures accurate { λ r. ⌜ (reportRounds r .accepted ≡ true → Accurate n (now (d .entry)) (now (f .entry)) (now (out .exit))) ⌝ }
+{
+    solve(n, d, false, 2_000_000_000, f, budget, out, work)
+}
+
+// Price rises from direct rises, in millionths. No result is left open. Its accuracy is carried by the last clause: against every exact balance
+// of the column direction an accepted rise is nowhere above it, and in each sector lacks less than 20 millionths.
+pub fn price(
+    n: usize,
+    d: &[u64],
+    w: &[u64],
+    budget: u32,
+    out: &mut [u64],
+    work: &mut [u64],
+) -> Outcome
+    ensures answer { λ r. ⌜ reportRounds r ≡ priceReport n (now (d .entry)) (now (w .entry)) budget (length (now (out .entry)) ∷ length (now (work .entry)) ∷ []) ⌝ }
+    ensures outputs { λ r. ⌜ now (out .exit) ≡ output (reportRounds r) (length (now (out .entry))) (settled n (transposed (at n (now (d .entry)))) (now (w .entry)) budget) ⌝ }
+    ensures cleared { λ _. ⌜ now (work .exit) ≡ replicate (length (now (work .entry))) 0 ⌝ }
+    ensures accurate { λ r. ⌜ (reportRounds r .accepted ≡ true → AccuratePrices n (now (d .entry)) (now (w .entry)) (now (out .exit))) ⌝ }
+{
+    solve(n, d, true, 1_000_000_000, w, budget, out, work)
 }

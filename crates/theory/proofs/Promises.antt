@@ -1,6 +1,6 @@
 -- What the papers promise of an accepted domestic matrix. Production goes along its rows, by the total; prices down its columns, by the
 -- largest; each is an instance of one law over a gauge. Assumes nothing.
-use mathlib.Core.Path.{_≡_, refl, sym, _∙_}
+use mathlib.Core.Path.{_≡_, refl, sym, ap, _∙_}
 use mathlib.Core.Bool.{Bool, true, false}
 use mathlib.Core.List.{List, [], _∷_}
 use Prim.Native.Nat.{ℕ, suc, _≤_, _<_}
@@ -11,15 +11,15 @@ use lib.Dec.{eqb}
 use lib.ListN.{length}
 use Rattle.model.specs.Numbers.{sum, largest, all, at, cell, transposed, oriented}
 use Rattle.model.specs.Rounds.{weighted, intermediate, rounds, Settles, shortfall, settling, settled, impliedDemand}
-use Rattle.model.specs.Checks.{accepts, verdict, demandLimit, settles, productionTotal, demandLeft}
-use Rattle.model.specs.Calls.{matrixChecks, settlingChecks, productionReport, impliedReport}
+use Rattle.model.specs.Checks.{Report, accepts, output, demandLimit, riseLimit, settles, productionTotal, demandLeft}
+use Rattle.model.specs.Calls.{matrixChecks, settlingChecks, productionReport, priceReport, impliedReport}
 use Rattle.model.specs.Promises.{AcceptedMatrix, Distinguishes, Accurate, AccuratePrices, Returns, NotAbove}
 use Rattle.theory.proofs.Sums.{sum-mono, sum-const, sum-part, sum-cell, largest-le, largest-cell}
 use Rattle.theory.proofs.Lists.{and-true}
 use Rattle.theory.proofs.Gauge.{total-gauge, largest-gauge}
 use Rattle.theory.proofs.Rounds.{equal-starts, settles-fixed, settles-length, lowest, implied-cell, forward-back}
 use Rattle.theory.proofs.Accuracy.{not-above, lacks-less, rounds-bounded, weighted-bounded}
-use Rattle.theory.proofs.Verdicts.{pass-on, matrix-accepted}
+use Rattle.theory.proofs.Verdicts.{output-given, pass-on, matrix-accepted}
 use Rattle.theory.proofs.Answers.{Started, accepted-settled}
 
 module _ {n : ℕ} {d : List ℕ} (A : AcceptedMatrix n d) where
@@ -76,6 +76,28 @@ module _ {n : ℕ} {d : List ℕ} (A : AcceptedMatrix n d) where
   pub implied-fits : (y : List ℕ) → sum n (cell y) ≤ 1600000000000 → (i : ℕ) → i < n → weighted n (at n d) (cell y) i ≤ 1520000000000000000
   implied-fits y h i l =
       omega (arith, sum-cell n (weighted n (at n d) (cell y)) i l, total-gauge n (at n d) (A .low) .shrinks (cell y))
+
+-- ---- at the calls: the report r and the outputs y of a call keep the promises
+pub production-keeps : (n : ℕ) (d f : List ℕ) (budget len : ℕ) (lent : List ℕ) {r : Report} {y : List ℕ}
+    → r ≡ productionReport n d f budget lent → y ≡ output r len (settled n (at n d) f budget)
+    → (r .accepted ≡ true → Distinguishes n d f y) × (r .accepted ≡ true → Accurate n d f y)
+unfolding productionReport
+production-keeps n d f budget len lent {r} {y} e o =
+    (λ a. let p = kept a in rw (given a) (distinguishes (p .0 .matrix) (p .1)), λ a. let p = kept a in rw (given a) (accurate (p .0 .matrix) (p .1)))
+  where
+    kept : r .accepted ≡ true → Started n d demandLimit f lent × Settles n (at n d) f (settling n (at n d) f budget) (settled n (at n d) f budget)
+    kept a = accepted-settled n d (at n d) demandLimit f budget lent (ap (λ (r : Report). r .accepted) (sym e) ∙ a)
+
+    given : r .accepted ≡ true → y ≡ settled n (at n d) f budget
+    given a = o ∙ output-given r len (settled n (at n d) f budget) a
+
+pub price-keeps : (n : ℕ) (d w : List ℕ) (budget len : ℕ) (lent : List ℕ) {r : Report} {y : List ℕ}
+    → r ≡ priceReport n d w budget lent → y ≡ output r len (settled n (transposed (at n d)) w budget)
+    → r .accepted ≡ true → AccuratePrices n d w y
+unfolding priceReport
+price-keeps n d w budget len lent {r} e o a =
+    let p = accepted-settled n d (transposed (at n d)) riseLimit w budget lent (ap (λ (r : Report). r .accepted) (sym e) ∙ a) in
+    rw (o ∙ output-given r len (settled n (transposed (at n d)) w budget) a) (accurate-prices (p .0 .matrix) (p .1))
 
 -- Demand 2: a demand behind a production is that of every start that settles there
 pub returns : (n : ℕ) (d y : List ℕ) → Returns n d y (impliedDemand n (at n d) y)

@@ -8,7 +8,7 @@ use borrow.Author.Tests.{lt-ltb, le-ltb, ltb-false, le-leb, leb-true, eq-eqb, eq
 use lib.Dec.{ltb, leb, eqb}
 use lib.ListN.{length}
 use Rattle.model.specs.Numbers.{sum, first, all, at, transposed}
-use Rattle.model.specs.Checks.{Report, Check, refuses, verdict, single}
+use Rattle.model.specs.Checks.{Report, Check, refuses, verdict, output, single}
 use Rattle.model.specs.Calls.{matrixChecks}
 use Rattle.model.specs.Promises.{AcceptedMatrix}
 use Rattle.theory.proofs.Lists.{All, all-none, first-here, first-none, first-before, and-true}
@@ -37,6 +37,10 @@ module _ (number : ℕ) {b : Bool} (qs : List Check) (k : ℕ) where
 
   pub single-failed : b ≡ false → verdict (single number b ∷ qs) k ≡ refuses number 0
   single-failed e = failed (single number b) qs k 0 (le-refl 1) (all-none (λ _. b)) e
+
+-- an accepted call's output is its result
+pub output-given : (r : Report) (len : ℕ) (y : List ℕ) → r .accepted ≡ true → output r len y ≡ y
+output-given r len y e = rw e
 
 -- where a list of checks accepts, all of them pass
 pub accepted-all : (qs : List Check) (k : ℕ) → verdict qs k .accepted ≡ true → AllPass qs
