@@ -2,15 +2,16 @@
 use mathlib.Core.Path.{_≡_, refl, sym, ap, _∙_}
 use mathlib.Core.Bool.{true, false}
 use mathlib.Core.List.{List, [], _∷_, _++_}
-use Prim.Native.Nat.{ℕ, suc, _≤_, _<_}
-use native.Mathlib.Nat.{le-refl}
+use Prim.Native.Nat.{ℕ, zero, suc, _≤_, _<_}
+use native.Mathlib.Omega.{arith}
+use native.Mathlib.Nat.{le-refl, lt-suc-self}
 use borrow.Author.Tests.{le-leb, lt-leb, leb-true}
-use lib.Dec.{eqb}
+use lib.Dec.{eqb, leb}
 use lib.ListN.{length}
-use Rattle.model.specs.Numbers.{all, cell}
-use Rattle.model.specs.Rounds.{changes, settling, settled, Settles}
-use Rattle.model.specs.Checks.{accepts, refuses, verdict, starts, single, settles}
-use Rattle.model.specs.Calls.{matrixChecks, settlingChecks, settlingReport}
+use Rattle.model.specs.Numbers.{sum, all, cell, at}
+use Rattle.model.specs.Rounds.{intermediate, changes, settling, settled, Settles}
+use Rattle.model.specs.Checks.{accepts, refuses, verdict, starts, productionTotal, demandLeft, single, settles}
+use Rattle.model.specs.Calls.{matrixChecks, settlingChecks, settlingReport, impliedReport}
 use Rattle.model.specs.Promises.{AcceptedMatrix}
 use Rattle.theory.proofs.Lists.{All, all-equal}
 use Rattle.theory.proofs.Settling.{counted, found, not-found}
@@ -24,14 +25,40 @@ pub record Started (n : ℕ) (d : List ℕ) (limit : ℕ) (s lent : List ℕ) : 
   pub small : (i : ℕ) → i < n → cell s i ≤ limit
 
 module _ (n : ℕ) (d : List ℕ) (limit : ℕ) (s lent : List ℕ) where
-  started : AllPass (matrixChecks n d [] (length s ∷ lent) ++ (starts n limit s ∷ [])) → Started n d limit s lent
+  pub started : AllPass (matrixChecks n d [] (length s ∷ lent) ++ (starts n limit s ∷ [])) → Started n d limit s lent
   started (p, (q, (r, (t, _)))) =
       let m = accepted-matrix n d [] (length s ∷ lent) (p, (q, (r, tt))) in
       let l = all-equal n (length s) lent (m .1) in
       record { matrix = m .0; start = l .0; slices = l .1; small = λ i h. leb-true (cell s i) limit (t i h) }
 
-  pub accepted-start : verdict (matrixChecks n d [] (length s ∷ lent) ++ (starts n limit s ∷ [])) 0 ≡ accepts 0 → Started n d limit s lent
-  accepted-start e = started (accepted-all (matrixChecks n d [] (length s ∷ lent) ++ (starts n limit s ∷ [])) 0 (ap (λ r. r .accepted) e))
+
+-- questions 1, 2, 7 and 8 of a given production pass
+pub record Given (n : ℕ) (d y lent : List ℕ) : Type 0 where
+  pub matrix : AcceptedMatrix n d
+  pub cells : length y ≡ n
+  pub slices : all (eqb n) lent ≡ true
+  pub total : sum n (cell y) ≤ 1600000000000
+
+pub given : (n : ℕ) (d y lent : List ℕ) → AllPass (matrixChecks n d [] (length y ∷ lent) ++ (productionTotal n y ∷ [])) → Given n d y lent
+given n d y lent (p, (q, (r, (t, _)))) =
+    let m = accepted-matrix n d [] (length y ∷ lent) (p, (q, (r, tt))) in
+    let l = all-equal n (length y) lent (m .1) in
+    record { matrix = m .0; cells = l .0; slices = l .1; total = whole n t }
+  where
+    -- the last running total is the whole
+    whole : (n : ℕ) → All (λ i. leb (sum (suc i) (cell y)) 1600000000000) n → sum n (cell y) ≤ 1600000000000
+    whole zero t = omega arith
+    whole (suc n) t = leb-true (sum (suc n) (cell y)) 1600000000000 (t n (lt-suc-self n))
+
+-- and an accepted call of implied demand: question 10 too
+pub accepted-implied : (n : ℕ) (d y lent : List ℕ) → impliedReport n d y lent .accepted ≡ true
+    → Given n d y lent × ((i : ℕ) → i < n → intermediate n (at n d) (cell y) i ≤ cell y i)
+unfolding impliedReport
+accepted-implied n d y lent a =
+    let p = accepted-all (matrixChecks n d [] (length y ∷ lent) ++ (productionTotal n y ∷ demandLeft n (at n d) y ∷ [])) 0 a in (
+      given n d y lent (p .0, (p .1 .0, (p .1 .1 .0, (p .1 .1 .1 .0, tt)))),
+      λ i h. leb-true (intermediate n (at n d) (cell y) i) (cell y i) (p .1 .1 .1 .1 .0 i h),
+    )
 
 module _ (n : ℕ) (d : List ℕ) (c : ℕ → ℕ → ℕ) (limit : ℕ) (s : List ℕ) (budget : ℕ) where
   -- an accepted call: what its checks say, and that the rounds settle at what it gives

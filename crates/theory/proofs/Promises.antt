@@ -20,7 +20,7 @@ use Rattle.theory.proofs.Gauge.{total-gauge, largest-gauge}
 use Rattle.theory.proofs.Rounds.{equal-starts, settles-fixed, settles-length, lowest, implied-cell, forward-back}
 use Rattle.theory.proofs.Accuracy.{not-above, lacks-less, rounds-bounded, weighted-bounded}
 use Rattle.theory.proofs.Verdicts.{output-given, pass-on, matrix-accepted}
-use Rattle.theory.proofs.Answers.{Started, accepted-settled}
+use Rattle.theory.proofs.Answers.{Started, accepted-settled, accepted-implied}
 
 module _ {n : ℕ} {d : List ℕ} (A : AcceptedMatrix n d) where
   -- Demand 3, first half: equal productions exactly from equal demands, whatever the demands
@@ -135,3 +135,24 @@ forward-then-back n d f budget lent a = (
 
     left : (i : ℕ) → i < n → intermediate n (at n d) (cell y) i ≤ cell y i
     left i h = omega (arith, settles-fixed n (at n d) σ i h)
+
+-- the report r and the outputs g of a call of implied demand keep these promises
+pub implied-keeps : (n : ℕ) (d y : List ℕ) (len : ℕ) {r : Report} {g : List ℕ}
+    → r ≡ impliedReport n d y (len ∷ []) → g ≡ output r len (impliedDemand n (at n d) y)
+    → (r .accepted ≡ true → Returns n d y g) × ((r .accepted ≡ true → NotAbove n d y g)
+    × ((f : List ℕ) (budget : ℕ) (lent : List ℕ) → productionReport n d f budget lent .accepted ≡ true → y ≡ settled n (at n d) f budget → len ≡ n
+    → (r ≡ accepts 0) × (g ≡ f)))
+implied-keeps n d y len {r} {g} e o = (λ a. rw (result a) (returns n d y), (λ a. rw (result a) (not-above-given n d y (left a)), again))
+  where
+    result : r .accepted ≡ true → g ≡ impliedDemand n (at n d) y
+    result a = o ∙ output-given r len (impliedDemand n (at n d) y) a
+
+    left : r .accepted ≡ true → (i : ℕ) → i < n → intermediate n (at n d) (cell y) i ≤ cell y i
+    left a = accepted-implied n d y (len ∷ []) (ap (λ (r : Report). r .accepted) (sym e) ∙ a) .1
+
+    again : (f : List ℕ) (budget : ℕ) (lent : List ℕ) → productionReport n d f budget lent .accepted ≡ true → y ≡ settled n (at n d) f budget → len ≡ n
+        → (r ≡ accepts 0) × (g ≡ f)
+    again f budget lent a h l =
+        let p = forward-then-back n d f budget lent a in
+        let t : r ≡ accepts 0 = e ∙ rw (h, l) (p .0) in
+        (t, result (ap (λ (r : Report). r .accepted) t) ∙ rw h (p .1))

@@ -8,10 +8,12 @@ use borrow.Author.Tests.{lt-ltb, le-ltb, ltb-false, le-leb, leb-true, eq-eqb, eq
 use lib.Dec.{ltb, leb, eqb}
 use lib.ListN.{length}
 use Rattle.model.specs.Numbers.{sum, first, all, at, transposed}
-use Rattle.model.specs.Checks.{Report, Check, refuses, verdict, output, single}
+use Rattle.model.specs.Checks.{Report, Check, refuses, report, verdict, output, single}
 use Rattle.model.specs.Calls.{matrixChecks}
+use Rattle.model.specs.declared.Answer.{Answer}
+use Rattle.model.specs.declared.Answer.the-variants.{Accepted, Refused}
 use Rattle.model.specs.Promises.{AcceptedMatrix}
-use Rattle.theory.proofs.Lists.{All, all-none, first-here, first-none, first-before, and-true}
+use Rattle.theory.proofs.Lists.{All, all-none, first-here, first-none, first-before, and-true, all-equal}
 
 -- a check passes at all its places, and all checks of a list do
 abbrev pub Passes : Check → Type 0
@@ -76,6 +78,17 @@ refuse-on (q ∷ ps) qs k a p e = split (ltb place (q .places)) e (refuse-on ps 
     split true e more = e
     split false e more = more e
 
+-- a call that has asked some checks and was answered a: where they refuse it is done, where they accept it goes on with the others
+module _ (ps : List Check) {a : Answer} (said : report a ≡ verdict ps 0) where
+  pub answered-pass : a ≡ Accepted → AllPass ps
+  answered-pass e = accepted-all ps 0 (ap (λ (r : Report). r .accepted) (sym said ∙ ap report e))
+
+  pub answered-on : (qs : List Check) (k : ℕ) → a ≡ Accepted → verdict qs k ≡ verdict (ps ++ qs) k
+  answered-on qs k e = sym (pass-on ps qs k (answered-pass e))
+
+  pub answered-stop : (qs : List Check) (k : ℕ) {q p : ℕ} → a ≡ Refused q p → refuses q p ≡ verdict (ps ++ qs) k
+  answered-stop qs k e = sym (refuse-on ps qs k _ _ (sym said ∙ ap report e))
+
 -- ---- checks 1, 2 and 7: where they pass the domestic matrix is accepted and the slices have their lengths, and the other way round
 module _ (n : ℕ) (d matrices lent : List ℕ) where
   pub accepted-matrix : AllPass (matrixChecks n d matrices lent) → AcceptedMatrix n d × (all (eqb n) lent ≡ true)
@@ -91,6 +104,11 @@ module _ (n : ℕ) (d matrices lent : List ℕ) where
         },
         l .1,
       )
+
+  -- the first of the slices of n cells
+  pub first-length : (x : ℕ) → AllPass (matrixChecks n d matrices (x ∷ lent)) → x ≡ n
+  first-length x (_, (q, _)) =
+      all-equal n x lent (and-true (all (eqb (n * n)) (length d ∷ matrices)) (all (eqb n) (x ∷ lent)) (q 0 (le-refl 1)) .1) .0
 
   pub matrix-accepted : AcceptedMatrix n d → all (eqb (n * n)) matrices ≡ true → all (eqb n) lent ≡ true → AllPass (matrixChecks n d matrices lent)
   matrix-accepted A e f = (

@@ -1,51 +1,46 @@
 -- `rounds::check_start` meets its contract: each way out has its law. Assumes nothing.
 use mathlib.Core.List.{List, [], _∷_}
-use mathlib.Core.Path.{_≡_, sym, ap, _∙_}
+use mathlib.Core.Path.{_≡_, _∙_}
 use Prim.Native.Nat.{ℕ}
 use borrow.Author.Needs.{needs}
 use lib.ListN.{length}
-use Rattle.model.specs.Checks.{Report, Check, report, verdict, starts}
+use Rattle.model.specs.Checks.{Check, report, verdict, starts}
 use Rattle.model.specs.Calls.{matrixChecks}
-use Rattle.theory.proofs.Lists.{all-equal}
-use Rattle.theory.proofs.Verdicts.{AllPass, accepted-all, pass-on, refuse-on, accepted-matrix}
+use Rattle.theory.proofs.Verdicts.{answered-pass, answered-on, answered-stop, first-length}
 use Rattle.rounds.proofs.check_start.Statement.{statement}
 use Rattle.rounds.proofs.check_start.Tie as tie
 
--- questions 1, 2 and 7 of the call's slices, and what was answered to them
+-- questions 1, 2 and 7 of the call's slices, what was answered to them, and question 8
 abbrev entry : tie.After-check-matrix → tie.Start
 entry q = q .before .before .before .before
 
 abbrev lent : tie.After-check-matrix → List ℕ
-lent q = let a = entry q .args in length (a .start .now) ∷ a .out-len ∷ a .work-len ∷ []
+lent q = entry q .args .out-len ∷ entry q .args .work-len ∷ []
 
 abbrev asked : tie.After-check-matrix → List Check
-asked q = let a = entry q .args in matrixChecks (a .n) (a .d .now) [] (lent q)
+asked q = let a = entry q .args in matrixChecks (a .n) (a .d .now) [] (length (a .start .now) ∷ lent q)
 
-said : (q : tie.After-check-matrix) → verdict (asked q) 0 ≡ report (q .check-matrix .result)
-said q = sym (q .check-matrix .ensures (lent q) (q .before .lent-fit .ensures))
+abbrev last : tie.After-check-matrix → List Check
+last q = let a = entry q .args in starts (a .n) (a .limit) (a .start .now) ∷ []
 
-passes : (c : tie.After-enum-told) → AllPass (asked (c .before .before))
-passes c =
-    let q = c .before .before in
-    accepted-all (asked q) 0 (ap (λ (r : Report). r .accepted) (said q ∙ ap report (c .enum-told .given .1)))
+said : (q : tie.After-check-matrix) → report (q .check-matrix .result) ≡ verdict (asked q) 0
+said q = q .check-matrix .ensures (length (entry q .args .start .now) ∷ lent q) (q .before .lent-fit .ensures)
 
 returns : tie.Need-returns
 returns c =
     let q = c .before .before .before in
-    let a = entry q .args in
-    sym (refuse-on (asked q) (starts (a .n) (a .limit) (a .start .now) ∷ []) 0 _ _ (said q ∙ ap report (c .before .matrix .given .1)))
+    answered-stop (asked q) (said q) (last q) 0 (c .before .matrix .given .1)
 
 starts-within-requires : tie.Need-starts-within-requires
 starts-within-requires c κs =
     let q = c .before .before in
     let a = entry q .args in
-    all-equal (a .n) (length (a .start .now)) (a .out-len ∷ a .work-len ∷ []) (accepted-matrix (a .n) (a .d .now) [] (lent q) (passes c) .1) .0
+    first-length (a .n) (a .d .now) [] (lent q) (length (a .start .now)) (answered-pass (asked q) (said q) (c .enum-told .given .1))
 
 returns-2 : tie.Need-returns-2
 returns-2 c =
     let q = c .before .before .before in
-    let a = entry q .args in
-    c .starts-within .ensures ∙ sym (pass-on (asked q) (starts (a .n) (a .limit) (a .start .now) ∷ []) 0 (passes (c .before)))
+    c .starts-within .ensures ∙ answered-on (asked q) (said q) (last q) 0 (c .before .enum-told .given .1)
 
 pub check-start-spec : {M : Type 1} → statement M
 check-start-spec =

@@ -7,11 +7,11 @@ use borrow.Author.Needs.{needs}
 use lib.ListN.{length, replicate}
 use Rattle.model.specs.Numbers.{at, oriented}
 use Rattle.model.specs.Rounds.{settling, settled}
-use Rattle.model.specs.Checks.{Report, Check, accepts, report, reportRounds, verdict, output, starts, single, settles}
+use Rattle.model.specs.Checks.{Check, reportRounds, output, starts, single, settles}
 use Rattle.model.specs.Calls.{matrixChecks}
 use Rattle.theory.proofs.Lists.{all-equal}
-use Rattle.theory.proofs.Verdicts.{accepted-all, pass-on, refuse-on}
-use Rattle.theory.proofs.Answers.{Started, accepted-start}
+use Rattle.theory.proofs.Verdicts.{answered-pass, answered-on, answered-stop}
+use Rattle.theory.proofs.Answers.{Started, started}
 use Rattle.rounds.proofs.solve.Statement.{statement}
 use Rattle.rounds.proofs.solve.Tie as tie
 
@@ -36,18 +36,15 @@ last q = let a = entry q .args in single 9 (settles (a .n) (coefficients q) (a .
 abbrev count : tie.After-check-start → ℕ
 count q = let a = entry q .args in settling (a .n) (coefficients q) (a .start .now) (a .budget)
 
-passed : (p : tie.After-enum-told) → verdict (asked (p .before .before)) 0 ≡ accepts 0
-passed p = sym (p .before .before .check-start .ensures) ∙ ap report (p .enum-told .given .1)
-
-started :
+started-at :
     (p : tie.After-enum-told) →
     let q = p .before .before in
     let a = entry q .args in
     Started (a .n) (a .d .now) (a .limit) (a .start .now) (lent q)
-started p =
+started-at p =
     let q = p .before .before in
     let a = entry q .args in
-    accepted-start (a .n) (a .d .now) (a .limit) (a .start .now) (lent q) (passed p)
+    started (a .n) (a .d .now) (a .limit) (a .start .now) (lent q) (answered-pass (asked q) (q .check-start .ensures) (p .enum-told .given .1))
 
 -- the lengths of the outputs and of the work cells
 lengths-are :
@@ -56,13 +53,13 @@ lengths-are :
     (length (a .out .now) ≡ a .n) × (length (a .work .now) ≡ a .n)
 lengths-are p =
     let a = entry (p .before .before) .args in
-    let l = all-equal (a .n) (length (a .out .now)) (length (a .work .now) ∷ []) (started p .slices) in
+    let l = all-equal (a .n) (length (a .out .now)) (length (a .work .now) ∷ []) (started-at p .slices) in
     (l .0, all-equal (a .n) (length (a .work .now)) [] (l .1) .0)
 
 settle-requires : tie.Need-settle-requires
 settle-requires c κs =
     let p = c .before .before in
-    let s = started p in
+    let s = started-at p in
     let l = lengths-are p in
     ((s .matrix, s .start, l .0, l .1), λ i h. le-trans (s .small i h) (entry (p .before .before) .pre))
 
@@ -70,8 +67,8 @@ returns : tie.Need-returns
 returns c =
     let k = c .before .before .before .before .before .before .before .before .before in
     let q = k .before .before in
-    let e = sym (q .check-start .ensures) ∙ ap report (k .checked .given .1) in
-    (sym (refuse-on (asked q) (last q) (count q) _ _ e), (c .before .before .before .before .before .before .fill-zero .ensures, c .before .before .fill-zero2 .ensures))
+    let e = answered-stop (asked q) (q .check-start .ensures) (last q) (count q) (k .checked .given .1) in
+    (e, (c .before .before .before .before .before .before .fill-zero .ensures, c .before .before .fill-zero2 .ensures))
 
 returns-2 : tie.Need-returns-2
 returns-2 c =
@@ -80,7 +77,7 @@ returns-2 c =
     let q = p .before .before in
     let a = entry q .args in
     let l = lengths-are p in (
-      r .settle .ensures .0 ∙ sym (pass-on (asked q) (last q) (count q) (accepted-all (asked q) 0 (ap (λ (r : Report). r .accepted) (passed p)))),
+      r .settle .ensures .0 ∙ answered-on (asked q) (q .check-start .ensures) (last q) (count q) (p .enum-told .given .1),
       (
         r .settle .ensures .1 .0 ∙ ap (λ (k : ℕ). output (reportRounds (r .settle .result)) k (settled (a .n) (coefficients q) (a .start .now) (a .budget))) (sym (l .0)),
         r .settle .ensures .1 .1 ∙ ap (λ (k : ℕ). replicate k 0) (sym (l .1)),

@@ -1,0 +1,53 @@
+-- `implied::implied_demand` meets its contract, by cases on what its checks answer. Assumes nothing.
+use mathlib.Core.List.{[], _∷_}
+use mathlib.Core.Path.{_≡_, sym, ap, _∙_}
+use borrow.Author.Needs.{needs}
+use lib.ListN.{length}
+use Rattle.model.specs.Checks.{Report, accepts, report}
+use Rattle.model.specs.Calls.{impliedReport}
+use Rattle.theory.proofs.Lists.{all-equal}
+use Rattle.theory.proofs.Answers.{accepted-implied}
+use Rattle.theory.proofs.Promises.{implied-fits, implied-keeps}
+use Rattle.implied.proofs.implied_demand.Statement.{statement}
+use Rattle.implied.proofs.implied_demand.Tie as tie
+
+abbrev entry : tie.After-check-implied → tie.Start
+entry q = q .before .before .before .before
+
+-- an accepted call's report
+accepted :
+    (p : tie.After-enum-told) →
+    let a = entry (p .before .before) .args in
+    accepts 0 ≡ impliedReport (a .n) (a .d .now) (a .production .now) (length (a .out .now) ∷ [])
+accepted p = sym (ap report (p .enum-told .given .1)) ∙ p .before .before .check-implied .ensures
+
+subtract-requires : tie.Need-subtract-requires
+subtract-requires c κs =
+    let p = c .before in
+    let a = entry (p .before .before) .args in
+    let lo = length (a .out .now) in
+    let g = accepted-implied (a .n) (a .d .now) (a .production .now) (lo ∷ []) (ap (λ (r : Report). r .accepted) (sym (accepted p))) in
+    ((g .0 .matrix .cells, g .0 .cells, all-equal (a .n) lo [] (g .0 .slices) .0), (implied-fits (g .0 .matrix) (a .production .now) (g .0 .total), g .1))
+
+returns : tie.Need-returns
+returns c =
+    let k = c .before .before .before .before .before in
+    let q = k .before .before in
+    let a = entry q .args in
+    let e = sym (ap report (k .checked .given .1)) ∙ q .check-implied .ensures in
+    let o = c .before .before .fill-zero .ensures in
+    (e, (o, implied-keeps (a .n) (a .d .now) (a .production .now) (length (a .out .now)) e o))
+
+returns-2 : tie.Need-returns-2
+returns-2 c =
+    let p = c .before .before .before .before in
+    let a = entry (p .before .before) .args in
+    let o = c .before .before .subtract .ensures in
+    (accepted p, (o, implied-keeps (a .n) (a .d .now) (a .production .now) (length (a .out .now)) (accepted p) o))
+
+pub implied-demand-spec : {M : Type 1} → statement M
+implied-demand-spec =
+    tie.close
+    (tie.spec
+    (λ c κs. search needs) (λ c. search needs) (λ c κs. search needs) (λ c. search needs) subtract-requires
+    (λ c. search needs) returns (λ c. search needs) returns-2)

@@ -1,0 +1,77 @@
+// The demand for domestic goods behind a given production.
+use cells::fill_zero;
+use cells::intermediate_use;
+use checks::check_matrix;
+use checks::demand_left;
+use checks::have_length;
+use checks::total_within;
+use model::Answer;
+ghost use mathlib.Core.Bool.{true};
+ghost use mathlib.Core.List.{List, [], _∷_, _++_};
+ghost use mathlib.Core.Path.{_≡_};
+ghost use Prim.Native.Nat.{ℕ, _*_, _<_, _≤_};
+ghost use lib.ListN.{length};
+ghost use Rattle.model.specs.Numbers.{at, cell};
+ghost use Rattle.model.specs.Rounds.{impliedDemand, intermediate, settled, weighted};
+ghost use Rattle.model.specs.Checks.{accepts, report, output, productionTotal, verdict};
+ghost use Rattle.model.specs.Calls.{impliedReport, matrixChecks, productionReport};
+ghost use Rattle.model.specs.Promises.{NotAbove, Returns};
+
+// Questions 1, 2, 7 and 8 of a given production.
+fn check_production(n: usize, d: &[u64], y: &[u64], out_len: usize) -> Answer
+    ensures { λ r. ⌜ report r ≡ verdict (matrixChecks n (now (d .entry)) [] (length (now (y .entry)) ∷ «out_len» ∷ []) ++ (productionTotal n (now (y .entry)) ∷ [])) 0 ⌝ }
+{
+    let fit = have_length(n, y.len(), out_len);
+    let matrix = check_matrix(n, d, fit);
+    if let Answer::Refused { number, place } = matrix {
+        return Answer::Refused { number, place };
+    }
+    total_within(n, y)
+}
+
+// Questions 1, 2, 7, 8 and 10.
+fn check_implied(n: usize, d: &[u64], y: &[u64], out_len: usize) -> Answer
+    ensures { λ r. ⌜ report r ≡ impliedReport n (now (d .entry)) (now (y .entry)) («out_len» ∷ []) ⌝ }
+{
+    let given = check_production(n, d, y, out_len);
+    if let Answer::Refused { number, place } = given {
+        return Answer::Refused { number, place };
+    }
+    demand_left(n, d, y)
+}
+
+// Takes off every sector's production what industry takes of it.
+fn subtract(n: usize, d: &[u64], y: &[u64], out: &mut [u64])
+    requires { ⌜ (length (now d) ≡ n * n) × (length (now y) ≡ n) × (length (now out) ≡ n) ⌝ }
+    requires { ⌜ ((i : ℕ) → i < n → weighted n (at n (now d)) (cell (now y)) i ≤ 1520000000000000000) ⌝ }
+    requires { ⌜ ((i : ℕ) → i < n → intermediate n (at n (now d)) (cell (now y)) i ≤ cell (now y) i) ⌝ }
+    ensures { λ _. ⌜ now (out .exit) ≡ impliedDemand n (at n (now (d .entry))) (now (y .entry)) ⌝ }
+{
+    for i in 0..n {
+        out[i] = y[i] - intermediate_use(n, d, false, y, i);
+    }
+}
+
+// The demand for domestic goods behind a given production: what industry takes, rounded down, is taken off it. For a production that rounds
+// have settled this is the demand that they started from (`returns`), and every production that the call of that name gives is accepted
+// here and gives its demand back (`inverse`). Going back and then forward need not return, which the paper leaves open: what holds is that
+// the production settled from this demand is nowhere above the given one (`back`).
+pub fn implied_demand(n: usize, d: &[u64], production: &[u64], out: &mut [u64]) -> Answer
+    ensures answer { λ r. ⌜ report r ≡ impliedReport n (now (d .entry)) (now (production .entry)) (length (now (out .entry)) ∷ []) ⌝ }
+    ensures outputs { λ r. ⌜ now (out .exit) ≡ output (report r) (length (now (out .entry))) (impliedDemand n (at n (now (d .entry))) (now (production .entry))) ⌝ }
+    ensures returns { λ r. ⌜ (report r .accepted ≡ true → Returns n (now (d .entry)) (now (production .entry)) (now (out .exit))) ⌝ }
+    ensures back { λ r. ⌜ (report r .accepted ≡ true → NotAbove n (now (d .entry)) (now (production .entry)) (now (out .exit))) ⌝ }
+    ensures inverse { λ r. ⌜ ((f : List ℕ) (budget : ℕ) (lent : List ℕ) → productionReport n (now (d .entry)) f budget lent .accepted ≡ true → now (production .entry) ≡ settled n (at n (now (d .entry))) f budget → length (now (out .entry)) ≡ n → (report r ≡ accepts 0) × (now (out .exit) ≡ f)) ⌝ }
+{
+    let checked = check_implied(n, d, production, out.len());
+    match checked {
+        Answer::Refused { number, place } => {
+            fill_zero(out);
+            Answer::Refused { number, place }
+        }
+        Answer::Accepted => {
+            subtract(n, d, production, out);
+            Answer::Accepted
+        }
+    }
+}
