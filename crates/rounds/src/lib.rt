@@ -21,7 +21,14 @@ ghost use Rattle.model.specs.Calls.{matrixChecks, priceReport, productionReport
 ghost use Rattle.model.specs.Promises.{AcceptedMatrix, Accurate, AccuratePrices, Distinguishes};
 
 // One round more, from `out` to `out`. Answers whether it changed no sector.
-fn turn(n: usize, d: &[u64], transposed: bool, start: &[u64], out: &mut [u64], work: &mut [u64]) -> bool
+fn turn(
+    n: usize,
+    d: &[u64],
+    transposed: bool,
+    start: &[u64],
+    out: &mut [u64],
+    work: &mut [u64],
+) -> bool
     requires { ⌜ (length (now d) ≡ n * n) × (length (now start) ≡ n) × (length (now out) ≡ n) × (length (now work) ≡ n) ⌝ }
     requires { ⌜ ((i : ℕ) → i < n → cell (now start) i ≤ demandLimit) ⌝ }
     requires { ⌜ ((i : ℕ) → i < n → weighted n (oriented transposed (at n (now d))) (cell (now out)) i ≤ 1520000000000000000) ⌝ }
@@ -101,7 +108,14 @@ fn lent_fit(n: usize, start_len: usize, out_len: usize, work_len: usize) -> bool
 }
 
 // Questions 1, 2, 7 and 8 of a start and its limit.
-fn check_start(n: usize, d: &[u64], limit: u64, start: &[u64], out_len: usize, work_len: usize) -> Answer
+fn check_start(
+    n: usize,
+    d: &[u64],
+    limit: u64,
+    start: &[u64],
+    out_len: usize,
+    work_len: usize,
+) -> Answer
     ensures { λ r. ⌜ report r ≡ verdict (matrixChecks n (now (d .entry)) [] (length (now (start .entry)) ∷ «out_len» ∷ «work_len» ∷ []) ++ (starts n limit (now (start .entry)) ∷ [])) 0 ⌝ }
 {
     let fit = lent_fit(n, start.len(), out_len, work_len);

@@ -1,5 +1,5 @@
 -- What the checks of production and price say of their slices, and what question 9 says of the rounds. Assumes nothing.
-use mathlib.Core.Path.{_≡_, refl, sym, ap, _∙_}
+use mathlib.Core.Path.{_≡_, sym, ap, _∙_}
 use mathlib.Core.Bool.{true, false}
 use mathlib.Core.List.{List, [], _∷_, _++_}
 use Prim.Native.Nat.{ℕ, zero, suc, _≤_, _<_}
@@ -15,7 +15,7 @@ use Rattle.model.specs.Calls.{matrixChecks, settlingChecks, settlingReport, imp
 use Rattle.model.specs.Promises.{AcceptedMatrix}
 use Rattle.theory.proofs.Lists.{All, all-equal}
 use Rattle.theory.proofs.Settling.{counted, found, not-found}
-use Rattle.theory.proofs.Verdicts.{AllPass, accepted-all, pass-on, refuse-on, accepted-matrix, single-passed, single-failed}
+use Rattle.theory.proofs.Verdicts.{AllPass, accepted-all, accepted-matrix, single-passed, single-failed}
 
 -- questions 1, 2, 7 and 8 pass
 pub record Started (n : ℕ) (d : List ℕ) (limit : ℕ) (s lent : List ℕ) : Type 0 where
@@ -30,7 +30,6 @@ module _ (n : ℕ) (d : List ℕ) (limit : ℕ) (s lent : List ℕ) where
       let m = accepted-matrix n d [] (length s ∷ lent) (p, (q, (r, tt))) in
       let l = all-equal n (length s) lent (m .1) in
       record { matrix = m .0; start = l .0; slices = l .1; small = λ i h. leb-true (cell s i) limit (t i h) }
-
 
 -- questions 1, 2, 7 and 8 of a given production pass
 pub record Given (n : ℕ) (d y lent : List ℕ) : Type 0 where

@@ -6,16 +6,14 @@ use mathlib.Core.List.{List, [], _∷_}
 use Prim.Native.Nat.{ℕ, suc, _≤_, _<_}
 use native.Mathlib.Omega.{arith}
 use native.Mathlib.Nat.{le-refl, le-trans}
-use borrow.Author.Tests.{le-leb, leb-true, eq-eqb, eqb-true}
-use lib.Dec.{eqb}
+use borrow.Author.Tests.{le-leb, eq-eqb}
 use lib.ListN.{length}
-use Rattle.model.specs.Numbers.{sum, largest, all, at, cell, transposed, oriented}
+use Rattle.model.specs.Numbers.{sum, largest, at, cell, transposed, oriented}
 use Rattle.model.specs.Rounds.{weighted, intermediate, rounds, Settles, shortfall, settling, settled, impliedDemand}
-use Rattle.model.specs.Checks.{Report, accepts, output, demandLimit, riseLimit, settles, productionTotal, demandLeft}
-use Rattle.model.specs.Calls.{matrixChecks, settlingChecks, productionReport, priceReport, impliedReport}
+use Rattle.model.specs.Checks.{Report, accepts, output, demandLimit, riseLimit, productionTotal, demandLeft}
+use Rattle.model.specs.Calls.{matrixChecks, productionReport, priceReport, impliedReport}
 use Rattle.model.specs.Promises.{AcceptedMatrix, Distinguishes, Accurate, AccuratePrices, Returns, NotAbove}
 use Rattle.theory.proofs.Sums.{sum-mono, sum-const, sum-part, sum-cell, largest-le, largest-cell}
-use Rattle.theory.proofs.Lists.{and-true}
 use Rattle.theory.proofs.Gauge.{total-gauge, largest-gauge}
 use Rattle.theory.proofs.Rounds.{equal-starts, settles-fixed, settles-length, lowest, implied-cell, forward-back}
 use Rattle.theory.proofs.Accuracy.{not-above, lacks-less, rounds-bounded, weighted-bounded}

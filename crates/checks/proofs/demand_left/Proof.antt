@@ -1,10 +1,10 @@
 -- `checks::demand_left` meets its contract: in no sector below i does industry take more than there is. Assumes nothing.
 use mathlib.Core.List.{[]}
-use mathlib.Core.Path.{_≡_, sym, ap, _∙_}
-use Prim.Native.Nat.{ℕ, _≤_, _-_}
+use mathlib.Core.Path.{sym}
+use Prim.Native.Nat.{_≤_, _-_}
 use native.Mathlib.Omega.{arith}
 use borrow.Author.Tests.{lt-leb, le-leb}
-use Rattle.model.specs.Numbers.{at, cell}
+use Rattle.model.specs.Numbers.{at}
 use Rattle.model.specs.Checks.{demandLeft}
 use Rattle.theory.proofs.Lists.{All, all-none, all-more}
 use Rattle.theory.proofs.Verdicts.{passed, failed}

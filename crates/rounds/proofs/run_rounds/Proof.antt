@@ -1,14 +1,12 @@
 -- `rounds::run_rounds` meets its contract: out has the amounts after `done` rounds, each of which changed a sector. Assumes nothing.
-use mathlib.Core.Path.{_≡_, refl, sym, subst, _∙_, ap}
+use mathlib.Core.Path.{_≡_, refl, sym, _∙_, ap}
 use mathlib.Core.Bool.{false≢true}
-use Prim.Native.Nat.{ℕ, suc, _+_, _≤_, _-_}
+use Prim.Native.Nat.{ℕ, _+_, _≤_, _-_}
 use native.Mathlib.Omega.{arith}
-use native.Mathlib.Numerals.{add-one}
 use lib.ListN.{length}
 use Rattle.model.specs.Numbers.{at, oriented}
 use Rattle.model.specs.Rounds.{rounds, changes, Settles}
 use Rattle.theory.proofs.Lists.{All}
-use Rattle.theory.proofs.Rounds.{length-rounds}
 use Rattle.theory.proofs.Settling.{none-yet, turn-amounts, turn-settles, turn-more}
 use Rattle.theory.proofs.Answers.{nine-passed, nine-failed}
 use Rattle.theory.proofs.Promises.{rounds-fit}
@@ -57,9 +55,10 @@ turn-requires c κs =
     let p = c .before .before .before in
     let l = p .loop in
     let s = entry p in
-    let A = s .pre .0 .0 in
-    ((A .cells, s .pre .0 .1, l .inv .1 ∙ ap length (s .pre .0 .2) ∙ s .pre .0 .1, l .inv .2 ∙ s .pre .0 .3),
-    (s .pre .1, rw (l .inv .3) (rounds-fit A (s .args .start .now) (s .pre .1) (s .args .transposed) (l .done))))
+    let A = s .pre .0 .0 in (
+      (A .cells, s .pre .0 .1, l .inv .1 ∙ ap length (s .pre .0 .2) ∙ s .pre .0 .1, l .inv .2 ∙ s .pre .0 .3),
+      (s .pre .1, rw (l .inv .3) (rounds-fit A (s .args .start .now) (s .pre .1) (s .args .transposed) (l .done))),
+    )
 
 same-length : tie.Need-same-length Inv-loop μ-loop
 same-length c =
