@@ -1,6 +1,8 @@
 // Leaves over lent slices. `transposed` gives the direction of a matrix: along its rows, or down its columns.
+ghost use mathlib.Core.Bool.{not};
 ghost use mathlib.Core.Path.{_≡_};
 ghost use Prim.Native.Nat.{ℕ, _+_, _*_, _<_, _≤_};
+ghost use lib.Dec.{eqb};
 ghost use lib.ListN.{length, replicate};
 ghost use Rattle.model.specs.Numbers.{at, cell, oriented, same};
 ghost use Rattle.model.specs.Rounds.{intermediate, round, weighted};
@@ -27,13 +29,20 @@ pub fn copy_cells(src: &[u64], dst: &mut [u64])
     }
 }
 
+// Does a sector's amount change?
+fn differ(a: u64, b: u64) -> bool
+    ensures { λ r. ⌜ r ≡ not (eqb a b) ⌝ }
+{
+    a != b
+}
+
 // Are two columns of n sectors the same?
 pub fn same_cells(n: usize, a: &[u64], b: &[u64]) -> bool
     requires { ⌜ (length (now a) ≡ n) × (length (now b) ≡ n) ⌝ }
     ensures { λ r. ⌜ r ≡ same n (now (a .entry)) (now (b .entry)) ⌝ }
 {
     for i in 0..n {
-        if a[i] != b[i] {
+        if differ(a[i], b[i]) {
             return false;
         }
     }

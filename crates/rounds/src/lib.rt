@@ -60,10 +60,11 @@ fn run_rounds(
     let mut done: u32 = 0;
     while done < budget {
         let unchanged = turn(n, d, transposed, start, out, work);
-        done += 1;
+        let count = done + 1;
         if unchanged {
-            return Outcome::Settled { rounds: done };
+            return Outcome::Settled { rounds: count };
         }
+        done = count;
     }
     Outcome::Refused {
         number: 9,
