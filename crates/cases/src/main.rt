@@ -130,6 +130,11 @@ fn worked() {
     imply(b"P4", 2, &d, &[999, 1999]);
     imply(b"P5", 2, &d, &[1000, 2000]);
     imply(b"P6", 2, &d, &[0, 1000]);
+}
+
+fn worked_neighbours() {
+    let d = [75000, 150000, 240000, 240000];
+    let f = [625, 1280];
     rise(b"P7", 2, &d, &[10000, 0], 1400);
     rise(b"P7 one round short", 2, &d, &[10000, 0], 9);
     produce_one(b"P8", 950000, 1, 1);
@@ -179,6 +184,10 @@ fn limits() {
     produce(b"demand over", 2, &d, &[2000000000, 2000000001], 9);
     produce(b"7 before 8", 2, &[950001, 0, 0, 0], &[2000000001, 0], 9);
     produce_forty(b"largest", 23750, 2000000000, 1400);
+}
+
+fn more_limits() {
+    let d = [75000, 150000, 240000, 240000];
     rise(b"rise at the limit", 2, &d, &[1000000000, 0], 1400);
     rise(b"rise over", 2, &d, &[0, 1000000001], 9);
     imply(b"total at the limit", 2, &[0, 0, 0, 0], &[1599999999999, 1]);
@@ -188,6 +197,8 @@ fn limits() {
 
 fn main() {
     worked();
+    worked_neighbours();
     shapes();
     limits();
+    more_limits();
 }

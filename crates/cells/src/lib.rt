@@ -1,5 +1,5 @@
 // Leaves over lent slices. `transposed` gives the direction of a matrix: along its rows, or down its columns.
-ghost use mathlib.Core.Bool.{not};
+ghost use mathlib.Core.Bool.{_&&_};
 ghost use mathlib.Core.Path.{_≡_};
 ghost use Prim.Native.Nat.{ℕ, _+_, _*_, _<_, _≤_};
 ghost use lib.Dec.{eqb};
@@ -29,26 +29,6 @@ pub fn copy_cells(src: &[u64], dst: &mut [u64])
     }
 }
 
-// Does a sector's amount change?
-fn differ(a: u64, b: u64) -> bool
-    ensures { λ r. ⌜ r ≡ not (eqb a b) ⌝ }
-{
-    a != b
-}
-
-// Are two columns of n sectors the same?
-pub fn same_cells(n: usize, a: &[u64], b: &[u64]) -> bool
-    requires { ⌜ (length (now a) ≡ n) × (length (now b) ≡ n) ⌝ }
-    ensures { λ r. ⌜ r ≡ same n (now (a .entry)) (now (b .entry)) ⌝ }
-{
-    for i in 0..n {
-        if differ(a[i], b[i]) {
-            return false;
-        }
-    }
-    true
-}
-
 // The coefficient in row i and column j; of the transposed matrix the one in row j and column i.
 pub fn cell_at(n: usize, d: &[u64], transposed: bool, i: usize, j: usize) -> u64
     requires { ⌜ (length (now d) ≡ n * n) × (i < n) × (j < n) ⌝ }
@@ -73,21 +53,45 @@ pub fn intermediate_use(n: usize, d: &[u64], transposed: bool, amounts: &[u64], 
     sum / 1_000_000
 }
 
-// One round from the amounts of the round before: every sector's start, and what industry takes of it.
-pub fn one_round(
+// Is a sector's amount the same as before?
+fn same_amount(a: u64, b: u64) -> bool
+    ensures { λ r. ⌜ r ≡ eqb a b ⌝ }
+{
+    a == b
+}
+
+// Are all sectors so far the same, and this one too?
+fn still_same(so_far: bool, a: u64, b: u64) -> bool
+    ensures { λ r. ⌜ r ≡ «so_far» && eqb a b ⌝ }
+{
+    if so_far {
+        return same_amount(a, b);
+    }
+    false
+}
+
+// One round more, from `out` to `out`: every sector's start, and what industry takes of it at the amounts of the round before. Answers
+// whether the round changed no sector.
+pub fn turn(
     n: usize,
     d: &[u64],
     transposed: bool,
     start: &[u64],
-    amounts: &[u64],
-    next: &mut [u64],
-)
-    requires { ⌜ (length (now d) ≡ n * n) × (length (now start) ≡ n) × (length (now amounts) ≡ n) × (length (now next) ≡ n) ⌝ }
+    out: &mut [u64],
+    work: &mut [u64],
+) -> bool
+    requires { ⌜ (length (now d) ≡ n * n) × (length (now start) ≡ n) × (length (now out) ≡ n) × (length (now work) ≡ n) ⌝ }
     requires { ⌜ ((i : ℕ) → i < n → cell (now start) i ≤ demandLimit) ⌝ }
-    requires { ⌜ ((i : ℕ) → i < n → weighted n (oriented transposed (at n (now d))) (cell (now amounts)) i ≤ 1520000000000000000) ⌝ }
-    ensures { λ _. ⌜ now (next .exit) ≡ round n (oriented transposed (at n (now (d .entry)))) (now (start .entry)) (now (amounts .entry)) ⌝ }
+    requires { ⌜ ((i : ℕ) → i < n → weighted n (oriented transposed (at n (now d))) (cell (now out)) i ≤ 1520000000000000000) ⌝ }
+    ensures { λ r. ⌜ r ≡ same n (round n (oriented transposed (at n (now (d .entry)))) (now (start .entry)) (now (out .entry))) (now (out .entry)) ⌝ }
+    ensures { λ _. ⌜ now (out .exit) ≡ round n (oriented transposed (at n (now (d .entry)))) (now (start .entry)) (now (out .entry)) ⌝ }
 {
+    let mut unchanged = true;
     for i in 0..n {
-        next[i] = start[i] + intermediate_use(n, d, transposed, amounts, i);
+        let amount = start[i] + intermediate_use(n, d, transposed, out, i);
+        unchanged = still_same(unchanged, amount, out[i]);
+        work[i] = amount;
     }
+    copy_cells(work, out);
+    unchanged
 }

@@ -1,8 +1,7 @@
 // Production from demand, prices from direct rises, and demand from production.
 use cells::copy_cells;
 use cells::fill_zero;
-use cells::one_round;
-use cells::same_cells;
+use cells::turn;
 use checks::check_matrix;
 use checks::have_length;
 use checks::starts_within;
@@ -19,27 +18,6 @@ ghost use Rattle.model.specs.Rounds.{round, settled, settling, weighted, Settle
 ghost use Rattle.model.specs.Checks.{report, reportRounds, verdict, output, single, settles, starts, demandLimit};
 ghost use Rattle.model.specs.Calls.{matrixChecks, priceReport, productionReport, settlingReport};
 ghost use Rattle.model.specs.Promises.{AcceptedMatrix, Accurate, AccuratePrices, Distinguishes};
-
-// One round more, from `out` to `out`. Answers whether it changed no sector.
-fn turn(
-    n: usize,
-    d: &[u64],
-    transposed: bool,
-    start: &[u64],
-    out: &mut [u64],
-    work: &mut [u64],
-) -> bool
-    requires { ⌜ (length (now d) ≡ n * n) × (length (now start) ≡ n) × (length (now out) ≡ n) × (length (now work) ≡ n) ⌝ }
-    requires { ⌜ ((i : ℕ) → i < n → cell (now start) i ≤ demandLimit) ⌝ }
-    requires { ⌜ ((i : ℕ) → i < n → weighted n (oriented transposed (at n (now d))) (cell (now out)) i ≤ 1520000000000000000) ⌝ }
-    ensures { λ r. ⌜ r ≡ same n (round n (oriented transposed (at n (now (d .entry)))) (now (start .entry)) (now (out .entry))) (now (out .entry)) ⌝ }
-    ensures { λ _. ⌜ now (out .exit) ≡ round n (oriented transposed (at n (now (d .entry)))) (now (start .entry)) (now (out .entry)) ⌝ }
-{
-    one_round(n, d, transposed, start, out, work);
-    let unchanged = same_cells(n, work, out);
-    copy_cells(work, out);
-    unchanged
-}
 
 // The settling loop: rounds from the start, which `out` holds, until one changes no sector. The count that it returns with the amounts is
 // the least settling index, and is never above the budget; without one it refuses with 9.

@@ -4,6 +4,7 @@ use mathlib.Core.List.{List, _∷_}
 use mathlib.Core.Path.{_≡_, refl, sym, ap, _∙_}
 use Prim.Native.Nat.{ℕ, zero, suc, _+_, _<_, _≤_, suc-le-suc}
 use native.Mathlib.Nat.{not-suc-le-zero, le-of-suc-le-suc, le-step, lt-suc-self, zero-lt-suc, ne-of-lt, lt-of-lt-of-le, le-refl}
+use native.Mathlib.Numerals.{add-one}
 use native.Mathlib.Omega.{arith}
 use borrow.Author.Count.{below-more}
 use borrow.Author.Tests.{eq-eqb, eqb-true}
@@ -121,10 +122,6 @@ equal-same zero a b p = refl
 equal-same (suc n) a b p =
     rw (equal-same n a b (λ i h. p i (le-step h))) (eq-eqb (cell a n) (cell b n) (p n (lt-suc-self n)))
 
--- two columns that differ in a sector are not the same
-pub unequal : (n : ℕ) (a b : List ℕ) (i : ℕ) → i < n → (cell a i ≡ cell b i → ⊥) → same n a b ≡ false
-unequal n a b i h ne = split (same n a b) refl
-  where
-    split : (t : Bool) → same n a b ≡ t → same n a b ≡ false
-    split true e = absurd (ne (same-equal n a b e i h))
-    split false e = e
+-- one sector more, whose amount in a is v
+pub same-more : (i : ℕ) (a b : List ℕ) {t : Bool} {v : ℕ} → t ≡ same i a b → v ≡ cell a i → t && eqb v (cell b i) ≡ same (i + 1) a b
+same-more i a b e f = rw (add-one, e, f)
