@@ -7,6 +7,7 @@ ghost use lib.ListN.{length, replicate};
 ghost use Rattle.model.specs.Numbers.{at, cell, oriented, same};
 ghost use Rattle.model.specs.Rounds.{intermediate, round, weighted};
 ghost use Rattle.model.specs.Checks.{demandLimit};
+ghost use Rattle.theory.specs.Bounds.{sumLimit};
 
 // Sets every cell to 0.
 pub fn fill_zero(s: &mut [u64])
@@ -43,7 +44,7 @@ pub fn cell_at(n: usize, d: &[u64], transposed: bool, i: usize, j: usize) -> u64
 // What industry takes of sector i: the weighted sum of the amounts, divided once by one and rounded down.
 pub fn intermediate_use(n: usize, d: &[u64], transposed: bool, amounts: &[u64], i: usize) -> u64
     requires { ⌜ (length (now d) ≡ n * n) × (length (now amounts) ≡ n) × (i < n) ⌝ }
-    requires { ⌜ weighted n (oriented transposed (at n (now d))) (cell (now amounts)) i ≤ 1520000000000000000 ⌝ }
+    requires { ⌜ weighted n (oriented transposed (at n (now d))) (cell (now amounts)) i ≤ sumLimit ⌝ }
     ensures { λ r. ⌜ r ≡ intermediate n (oriented transposed (at n (now (d .entry)))) (cell (now (amounts .entry))) i ⌝ }
 {
     let mut sum: u64 = 0;
@@ -82,7 +83,7 @@ pub fn turn(
 ) -> bool
     requires { ⌜ (length (now d) ≡ n * n) × (length (now start) ≡ n) × (length (now out) ≡ n) × (length (now work) ≡ n) ⌝ }
     requires { ⌜ ((i : ℕ) → i < n → cell (now start) i ≤ demandLimit) ⌝ }
-    requires { ⌜ ((i : ℕ) → i < n → weighted n (oriented transposed (at n (now d))) (cell (now out)) i ≤ 1520000000000000000) ⌝ }
+    requires { ⌜ ((i : ℕ) → i < n → weighted n (oriented transposed (at n (now d))) (cell (now out)) i ≤ sumLimit) ⌝ }
     ensures { λ r. ⌜ r ≡ same n (round n (oriented transposed (at n (now (d .entry)))) (now (start .entry)) (now (out .entry))) (now (out .entry)) ⌝ }
     ensures { λ _. ⌜ now (out .exit) ≡ round n (oriented transposed (at n (now (d .entry)))) (now (start .entry)) (now (out .entry)) ⌝ }
 {

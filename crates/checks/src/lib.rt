@@ -11,6 +11,7 @@ ghost use Rattle.model.specs.Numbers.{all, at, cell};
 ghost use Rattle.model.specs.Rounds.{weighted};
 ghost use Rattle.model.specs.Checks.{report, verdict, columnSums, starts, productionTotal, demandLeft};
 ghost use Rattle.model.specs.Calls.{matrixChecks};
+ghost use Rattle.theory.specs.Bounds.{sumLimit};
 
 // Question 1: is n from 1 to 40?
 fn is_sized(n: usize) -> bool
@@ -120,7 +121,7 @@ pub fn total_within(n: usize, y: &[u64]) -> Answer
 // Question 10: does the production leave every sector's demand at 0 or above?
 pub fn demand_left(n: usize, d: &[u64], y: &[u64]) -> Answer
     requires { ⌜ (length (now d) ≡ n * n) × (length (now y) ≡ n) ⌝ }
-    requires { ⌜ ((i : ℕ) → i < n → weighted n (at n (now d)) (cell (now y)) i ≤ 1520000000000000000) ⌝ }
+    requires { ⌜ ((i : ℕ) → i < n → weighted n (at n (now d)) (cell (now y)) i ≤ sumLimit) ⌝ }
     ensures { λ r. ⌜ report r ≡ verdict (demandLeft n (at n (now (d .entry))) (now (y .entry)) ∷ []) 0 ⌝ }
 {
     for i in 0..n {

@@ -16,6 +16,7 @@ ghost use Rattle.model.specs.Rounds.{impliedDemand, intermediate, settled, weig
 ghost use Rattle.model.specs.Checks.{accepts, report, output, productionTotal, verdict};
 ghost use Rattle.model.specs.Calls.{impliedReport, matrixChecks, productionReport};
 ghost use Rattle.model.specs.Promises.{NotAbove, Returns};
+ghost use Rattle.theory.specs.Bounds.{sumLimit};
 
 // Questions 1, 2, 7 and 8 of a given production.
 fn check_production(n: usize, d: &[u64], y: &[u64], out_len: usize) -> Answer
@@ -43,7 +44,7 @@ fn check_implied(n: usize, d: &[u64], y: &[u64], out_len: usize) -> Answer
 // Takes off every sector's production what industry takes of it.
 fn subtract(n: usize, d: &[u64], y: &[u64], out: &mut [u64])
     requires { ⌜ (length (now d) ≡ n * n) × (length (now y) ≡ n) × (length (now out) ≡ n) ⌝ }
-    requires { ⌜ ((i : ℕ) → i < n → weighted n (at n (now d)) (cell (now y)) i ≤ 1520000000000000000) ⌝ }
+    requires { ⌜ ((i : ℕ) → i < n → weighted n (at n (now d)) (cell (now y)) i ≤ sumLimit) ⌝ }
     requires { ⌜ ((i : ℕ) → i < n → intermediate n (at n (now d)) (cell (now y)) i ≤ cell (now y) i) ⌝ }
     ensures { λ _. ⌜ now (out .exit) ≡ impliedDemand n (at n (now (d .entry))) (now (y .entry)) ⌝ }
 {

@@ -1,5 +1,6 @@
 -- Document 01, "Worked table and its neighbours": P1 to P12 as rows of one table. The checker computes both columns. Assumes nothing.
 use mathlib.Core.Path.{_≡_, refl}
+use mathlib.Core.Bool.{true}
 use mathlib.Core.List.{List, [], _∷_, map}
 use Prim.Native.Nat.{ℕ, _+_, _*_}
 use Rattle.model.specs.Numbers.{one, tabulate, cell, at, transposed}
@@ -134,3 +135,13 @@ rows =
 pub worked : map (λ (r : Row). r .given) rows ≡ map (λ (r : Row). r .stated) rows
 unfolding rows coefficientsReport inputCoefficients valueAddedCoefficients importCoefficients domesticCoefficients domesticDemands productionReport priceReport impliedReport inverseReport absorption inputCoefficient valueAddedCoefficient importCoefficient domesticCoefficient domesticDemand intermediate round rounds changes settling settled impliedDemand unit inverse inverseRounds powerOfDispersion sensitivityOfDispersion
 worked = refl
+
+-- Document 01, "Slips the worked table shows up", where no call shows them: the first sector after round 2, the rise of sector 1 after the first
+-- round of P7, and the amounts after round 7 of P2, which the next round changes
+pub slips :
+    _≡_ {A = List ℕ}
+    (cell (rounds 2 (at 2 d) f 2) 0 ∷ cell (rounds 2 (transposed (at 2 d)) (10000 ∷ 0 ∷ []) 1) 1 ∷ rounds 2 (at 2 d) f 7)
+    (950 ∷ 1500 ∷ 999 ∷ 1998 ∷ [])
+    × (changes 2 (at 2 d) f 8 ≡ true)
+unfolding rounds round intermediate changes
+slips = (refl, refl)

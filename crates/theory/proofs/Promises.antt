@@ -13,6 +13,7 @@ use Rattle.model.specs.Rounds.{weighted, intermediate, rounds, Settles, shortfa
 use Rattle.model.specs.Checks.{Report, accepts, output, demandLimit, riseLimit, productionTotal, demandLeft}
 use Rattle.model.specs.Calls.{matrixChecks, productionReport, priceReport, impliedReport}
 use Rattle.model.specs.Promises.{AcceptedMatrix, Distinguishes, Accurate, AccuratePrices, Returns, NotAbove}
+use Rattle.theory.specs.Bounds.{sumLimit}
 use Rattle.theory.proofs.Sums.{sum-mono, sum-const, sum-part, sum-cell, largest-le, largest-cell}
 use Rattle.theory.proofs.Gauge.{total-gauge, largest-gauge}
 use Rattle.theory.proofs.Rounds.{equal-starts, settles-fixed, settles-length, lowest, implied-cell, forward-back}
@@ -47,12 +48,12 @@ module _ {n : ℕ} {d : List ℕ} (A : AcceptedMatrix n d) where
     total-small : sum n (cell s) ≤ 80000000000
     total-small = let few = A .few in omega (arith, sum-mono n small, sum-const n demandLimit)
 
-    production-fits : (k i : ℕ) → i < n → weighted n (at n d) (cell (rounds n (at n d) s k)) i ≤ 1520000000000000000
+    production-fits : (k i : ℕ) → i < n → weighted n (at n d) (cell (rounds n (at n d) s k)) i ≤ sumLimit
     production-fits k i h =
         let t = total-small in
         omega (arith, weighted-bounded n (at n d) (sum n) n (total-gauge n (at n d) (A .low)) s k i h)
 
-    price-fits : (k i : ℕ) → i < n → weighted n (transposed (at n d)) (cell (rounds n (transposed (at n d)) s k)) i ≤ 1520000000000000000
+    price-fits : (k i : ℕ) → i < n → weighted n (transposed (at n d)) (cell (rounds n (transposed (at n d)) s k)) i ≤ sumLimit
     price-fits k i h =
         omega (
           arith,
@@ -61,7 +62,7 @@ module _ {n : ℕ} {d : List ℕ} (A : AcceptedMatrix n d) where
         )
 
     pub rounds-fit : (t : Bool) (k i : ℕ) → i < n
-        → weighted n (oriented t (at n d)) (cell (rounds n (oriented t (at n d)) s k)) i ≤ 1520000000000000000
+        → weighted n (oriented t (at n d)) (cell (rounds n (oriented t (at n d)) s k)) i ≤ sumLimit
     rounds-fit true = price-fits
     rounds-fit false = production-fits
 
@@ -71,7 +72,7 @@ module _ {n : ℕ} {d : List ℕ} (A : AcceptedMatrix n d) where
         let t = total-small in
         omega (arith, rounds-bounded n (at n d) (sum n) n (total-gauge n (at n d) (A .low)) s k)
 
-  pub implied-fits : (y : List ℕ) → sum n (cell y) ≤ 1600000000000 → (i : ℕ) → i < n → weighted n (at n d) (cell y) i ≤ 1520000000000000000
+  pub implied-fits : (y : List ℕ) → sum n (cell y) ≤ 1600000000000 → (i : ℕ) → i < n → weighted n (at n d) (cell y) i ≤ sumLimit
   implied-fits y h i l =
       omega (arith, sum-cell n (weighted n (at n d) (cell y)) i l, total-gauge n (at n d) (A .low) .shrinks (cell y))
 

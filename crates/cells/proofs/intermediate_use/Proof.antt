@@ -4,6 +4,7 @@ use Prim.Native.Nat.{ℕ, _+_, _*_, _/_, _≤_, _-_}
 use native.Mathlib.Omega.{arith}
 use Rattle.model.specs.Numbers.{one, sum, at, cell, oriented}
 use Rattle.model.specs.Rounds.{product, intermediate}
+use Rattle.theory.specs.Bounds.{sumLimit}
 use Rattle.theory.proofs.Sums.{sum-more, sum-room, sum-done}
 use Rattle.cells.proofs.intermediate_use.Statement.{statement}
 use Rattle.cells.proofs.intermediate_use.Tie as tie
@@ -30,7 +31,7 @@ term :
     q .cell-at .result * cell (start (q .before .before) .args .amounts .now) (l .j) ≡ terms (q .before .before) (l .j)
 term q = ap (λ (t : ℕ). t * cell (start (q .before .before) .args .amounts .now) (q .before .before .loop .j)) (q .cell-at .ensures)
 
-room : (q : tie.After-cell-at Inv-loop μ-loop) → q .before .before .loop .sum + terms (q .before .before) (q .before .before .loop .j) ≤ 1520000000000000000
+room : (q : tie.After-cell-at Inv-loop μ-loop) → q .before .before .loop .sum + terms (q .before .before) (q .before .before .loop .j) ≤ sumLimit
 room q =
     let p = q .before .before in
     omega (arith, sum-room (terms p) (p .loop .j) (start p .args .n) (p .loop .sum) (p .loop .inv .1) (q .before .loop-test .taken), start p .pre .1)
