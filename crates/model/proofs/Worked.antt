@@ -5,7 +5,7 @@ use mathlib.Core.List.{List, [], _∷_, map}
 use Prim.Native.Nat.{ℕ, _+_, _*_}
 use Rattle.model.specs.Numbers.{one, tabulate, cell, at, transposed}
 use Rattle.model.specs.Table.{Table, absorption, inputCoefficient, valueAddedCoefficient, importCoefficient, domesticCoefficient, domesticDemand}
-use Rattle.model.specs.Rounds.{weighted, intermediate, round, rounds, changes, settling, settled, impliedDemand, unit, inverse, inverseRounds, powerOfDispersion, sensitivityOfDispersion}
+use Rattle.model.specs.Rounds.{weighted, intermediate, round, rounds, changes, settling, settled, impliedDemand, unit, inverse, inverseRounds, dispersion}
 use Rattle.model.specs.Checks.{Report, accepts, refuses, output}
 use Rattle.model.specs.Calls.{coefficientsReport, inputCoefficients, valueAddedCoefficients, importCoefficients, domesticCoefficients, domesticDemands, productionReport, priceReport, impliedReport, inverseReport}
 
@@ -58,8 +58,8 @@ module _ (n : ℕ) (d : List ℕ) where
         said = r;
         outputs =
             output r (n * n) (inverse n d budget)
-            ∷ output r n (powerOfDispersion n (at n (inverse n d budget)))
-            ∷ output r n (sensitivityOfDispersion n (at n (inverse n d budget)))
+            ∷ output r n (dispersion n (at n (inverse n d budget)))
+            ∷ output r n (dispersion n (transposed (at n (inverse n d budget))))
             ∷ [];
       }
 
@@ -133,7 +133,7 @@ rows =
     ∷ []
 
 pub worked : map (λ (r : Row). r .given) rows ≡ map (λ (r : Row). r .stated) rows
-unfolding rows coefficientsReport inputCoefficients valueAddedCoefficients importCoefficients domesticCoefficients domesticDemands productionReport priceReport impliedReport inverseReport absorption inputCoefficient valueAddedCoefficient importCoefficient domesticCoefficient domesticDemand intermediate round rounds changes settling settled impliedDemand unit inverse inverseRounds powerOfDispersion sensitivityOfDispersion
+unfolding rows coefficientsReport inputCoefficients valueAddedCoefficients importCoefficients domesticCoefficients domesticDemands productionReport priceReport impliedReport inverseReport absorption inputCoefficient valueAddedCoefficient importCoefficient domesticCoefficient domesticDemand intermediate round rounds changes settling settled impliedDemand unit inverse inverseRounds dispersion
 worked = refl
 
 -- Document 01, "Slips the worked table shows up", where no call shows them: the first sector after round 2, the rise of sector 1 after the first

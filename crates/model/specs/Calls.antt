@@ -62,7 +62,8 @@ module _ (n : ℕ) (d : List ℕ) where
   impliedReport y lent =
       verdict (matrixChecks [] (length y ∷ lent) ++ (productionTotal n y ∷ demandLeft n (at n d) y ∷ [])) 0
 
-  -- The inverse sheet asks 1, 2, 7, 9; its results: `inverse n d budget` and, over it, `powerOfDispersion` and `sensitivityOfDispersion`
+  -- The inverse sheet asks 1, 2, 7, 9; its results: z, which is `inverse n d budget`, `dispersion n (at n z)` and
+  -- `dispersion n (transposed (at n z))`
   unfoldable pub inverseReport : ℕ → List ℕ → List ℕ → Report
   inverseReport budget matrices lent =
       verdict (matrixChecks matrices lent ++ (columnsSettle n d budget ∷ [])) (inverseRounds n d budget)

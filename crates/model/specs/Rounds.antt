@@ -81,13 +81,10 @@ inverse n d budget = matrix n (λ i j. cell (settled n (at n d) (unit n j) budge
 unfoldable pub inverseRounds : ℕ → List ℕ → ℕ → ℕ
 inverseRounds n d budget = largest n (λ j. settling n (at n d) (unit n j) budget)
 
--- Influence ratio of j (power of dispersion) over an inverse z: its column sum against all cells
-unfoldable pub powerOfDispersion : ℕ → (ℕ → ℕ → ℕ) → List ℕ
-powerOfDispersion n z = tabulate n (λ j. sum n (transposed z j) * n * one / sum n (λ i. sum n (z i)))
-
--- Sensitivity ratio of i (sensitivity of dispersion): its row sum against all cells
-unfoldable pub sensitivityOfDispersion : ℕ → (ℕ → ℕ → ℕ) → List ℕ
-sensitivityOfDispersion n z = tabulate n (λ i. sum n (z i) * n * one / sum n (λ i. sum n (z i)))
+-- Influence ratios over an inverse z (power of dispersion): each column sum against all cells. The sensitivity ratios (sensitivity of
+-- dispersion), each row sum against all cells, are the same over `transposed z`
+unfoldable pub dispersion : ℕ → (ℕ → ℕ → ℕ) → List ℕ
+dispersion n z = tabulate n (λ j. sum n (transposed z j) * n * one / sum n (λ k. sum n (transposed z k)))
 
 -- A sector's row of a sheet: n cells from sector × n; empty where question 1 or 2 fails or the sector is not below n
 unfoldable pub rowSlice : ℕ → List ℕ → ℕ → List ℕ
