@@ -1,7 +1,7 @@
 // The checks of document 01 as scans over lent slices. Each answers its number and its first failing place, or that it passes.
 use cells::intermediate_use;
 use model::Answer;
-ghost use mathlib.Core.Bool.{_&&_};
+ghost use mathlib.Core.Bool.{true, _&&_};
 ghost use mathlib.Core.List.{List, [], _∷_};
 ghost use mathlib.Core.Path.{_≡_};
 ghost use Prim.Native.Nat.{ℕ, _*_, _<_, _≤_};
@@ -9,8 +9,7 @@ ghost use lib.Dec.{eqb, leb};
 ghost use lib.ListN.{length};
 ghost use Rattle.model.specs.Numbers.{all, at, cell};
 ghost use Rattle.model.specs.Rounds.{weighted};
-ghost use Rattle.model.specs.Checks.{report, verdict, columnSums, starts, productionTotal, demandLeft};
-ghost use Rattle.model.specs.Calls.{matrixChecks};
+ghost use Rattle.model.specs.Checks.{report, verdict, size, lengths, columnSums, starts, productionTotal, demandLeft};
 ghost use Rattle.theory.specs.Bounds.{sumLimit};
 
 // Question 1: is n from 1 to 40?
@@ -23,14 +22,41 @@ fn is_sized(n: usize) -> bool
     n <= 40
 }
 
-// Question 2, of two slices of n cells: has each its exact length?
-pub fn have_length(n: usize, a: usize, b: usize) -> bool
-    ensures { λ r. ⌜ r ≡ all (eqb n) (a ∷ b ∷ []) ⌝ }
+// Is every length of a list n?
+fn all_equal(n: usize, lengths: &[usize]) -> bool
+    ensures { λ r. ⌜ r ≡ all (eqb n) (now (lengths .entry)) ⌝ }
 {
-    if n != a {
-        return false;
+    for i in 0..lengths.len() {
+        if n != lengths[i] {
+            return false;
+        }
     }
-    n == b
+    true
+}
+
+// Questions 1 and 2: is n from 1 to 40, and has every lent slice its exact length?
+pub fn check_sizes(n: usize, matrices: &[usize], lent: &[usize]) -> Answer
+    ensures { λ r. ⌜ report r ≡ verdict (size n ∷ lengths n (now (matrices .entry)) (now (lent .entry)) ∷ []) 0 ⌝ }
+{
+    if !is_sized(n) {
+        return Answer::Refused {
+            number: 1,
+            place: 0,
+        };
+    }
+    if !all_equal(n * n, matrices) {
+        return Answer::Refused {
+            number: 2,
+            place: 0,
+        };
+    }
+    if !all_equal(n, lent) {
+        return Answer::Refused {
+            number: 2,
+            place: 0,
+        };
+    }
+    Answer::Accepted
 }
 
 // Question 7: is every column sum at most 950,000? A column is left at the first cell that takes its sum over.
@@ -58,27 +84,14 @@ pub fn columns_within(n: usize, d: &[u64]) -> Answer
     }
 }
 
-// Questions 1, 2 and 7. `fit` says whether the slices of n cells have their length.
-pub fn check_matrix(n: usize, d: &[u64], fit: bool) -> Answer
-    ensures { λ r. ⌜ ((lent : List ℕ) → fit ≡ all (eqb n) lent → report r ≡ verdict (matrixChecks n (now (d .entry)) [] lent) 0) ⌝ }
+// Questions 1, 2 and 7. The length of d is among those of the matrices.
+pub fn check_matrix(n: usize, d: &[u64], matrices: &[usize], lent: &[usize]) -> Answer
+    requires { ⌜ (all (eqb (n * n)) (now matrices) ≡ true → length (now d) ≡ n * n) ⌝ }
+    ensures { λ r. ⌜ report r ≡ verdict (size n ∷ lengths n (now (matrices .entry)) (now (lent .entry)) ∷ columnSums n (at n (now (d .entry))) ∷ []) 0 ⌝ }
 {
-    if !is_sized(n) {
-        return Answer::Refused {
-            number: 1,
-            place: 0,
-        };
-    }
-    if n * n != d.len() {
-        return Answer::Refused {
-            number: 2,
-            place: 0,
-        };
-    }
-    if !fit {
-        return Answer::Refused {
-            number: 2,
-            place: 0,
-        };
+    let sizes = check_sizes(n, matrices, lent);
+    if let Answer::Refused { number, place } = sizes {
+        return Answer::Refused { number, place };
     }
     columns_within(n, d)
 }

@@ -3,7 +3,6 @@ use cells::fill_zero;
 use cells::intermediate_use;
 use checks::check_matrix;
 use checks::demand_left;
-use checks::have_length;
 use checks::total_within;
 use model::Answer;
 ghost use mathlib.Core.Bool.{true};
@@ -22,8 +21,9 @@ ghost use Rattle.theory.specs.Bounds.{sumLimit};
 fn check_production(n: usize, d: &[u64], y: &[u64], out_len: usize) -> Answer
     ensures { λ r. ⌜ report r ≡ verdict (matrixChecks n (now (d .entry)) [] (length (now (y .entry)) ∷ «out_len» ∷ []) ++ (productionTotal n (now (y .entry)) ∷ [])) 0 ⌝ }
 {
-    let fit = have_length(n, y.len(), out_len);
-    let matrix = check_matrix(n, d, fit);
+    let matrices = [d.len()];
+    let lent = [y.len(), out_len];
+    let matrix = check_matrix(n, d, &matrices, &lent);
     if let Answer::Refused { number, place } = matrix {
         return Answer::Refused { number, place };
     }

@@ -16,8 +16,8 @@ module _ (t : Table) where
       let n = t .sectors in
       let columns = length (t .finalDemand) ∷ length (t .exports) ∷ length (t .imports) ∷ length (t .valueAdded) ∷ length (t .production) ∷ lent in
       verdict
-      (size n ∷ lengths n (length (t .flows) ∷ matrices) columns ∷ tableAmounts t ∷ columnBalances t ∷ rowBalances t ∷ importsCovered t
-      ∷ columnSums n (domesticCoefficient t) ∷ [])
+      (size n ∷ lengths n (length (t .flows) ∷ matrices) columns
+      ∷ tableAmounts t ++ (columnBalances t ∷ rowBalances t ∷ importsCovered t ∷ columnSums n (domesticCoefficient t) ∷ []))
       0
 
   -- its results: a, v, m, d and f
@@ -72,4 +72,4 @@ module _ (n : ℕ) (d : List ℕ) where
 unfoldable pub inducedReport : ℕ → (a m v F y : List ℕ) → List ℕ → Report
 inducedReport n a m v F y lent =
     let columns = length m ∷ length v ∷ length F ∷ length y ∷ lent in
-    verdict (size n ∷ lengths n (length a ∷ []) columns ∷ inducedAmounts a m v F ∷ productionTotal n y ∷ []) 0
+    verdict (size n ∷ lengths n (length a ∷ []) columns ∷ inducedAmounts n a m v F ++ (productionTotal n y ∷ [])) 0

@@ -1,6 +1,6 @@
 -- Document 01, "Questions a call asks, in this order". A check is a test at each of its places.
 use mathlib.Core.Bool.{Bool, true, false, _&&_, cond}
-use mathlib.Core.List.{List, [], _∷_, _++_}
+use mathlib.Core.List.{List, [], _∷_}
 use Prim.Native.Nat.{ℕ, suc, _+_, _*_}
 use lib.Dec.{eqb, leb, ltb}
 use lib.ListN.{length, replicate}
@@ -35,8 +35,10 @@ abbrev pub reportRounds : Outcome → Report
 reportRounds (Settled k) = accepts k
 reportRounds (Outcome·Refused q p) = refuses q p
 
+-- A check: its number, the place of its first cell, how many cells it has, and a test of each
 pub record Check : Type 0 where
   pub number : ℕ
+  pub offset : ℕ
   pub places : ℕ
   pub passes : ℕ → Bool
 
@@ -44,9 +46,9 @@ pub record Check : Type 0 where
 abbrev pub verdict : List Check → ℕ → Report
 verdict [] k = accepts k
 verdict (q ∷ qs) k =
-    let place = first (q .places) (q .passes) in
+    let cell = first (q .places) (q .passes) in
     let later = verdict qs k in
-    cond (ltb place (q .places)) (refuses (q .number) place) later
+    cond (ltb cell (q .places)) (refuses (q .number) (q .offset + cell)) later
 
 -- What a call leaves in an output slice: the result, or 0 in every cell, whatever the slice's length
 abbrev pub output : Report → ℕ → List ℕ → List ℕ
@@ -54,7 +56,7 @@ output r len result = cond (r .accepted) result (replicate len 0)
 
 -- check k at each of n places, and one whose place is always 0
 abbrev pub each : ℕ → ℕ → (ℕ → Bool) → Check
-each k n p = record { number = k; places = n; passes = p }
+each k n p = record { number = k; offset = 0; places = n; passes = p }
 
 abbrev pub single : ℕ → Bool → Check
 single k b = each k 1 (λ _. b)
@@ -70,17 +72,29 @@ size n = single 1 (leb 1 n && leb n 40)
 abbrev pub lengths : ℕ → List ℕ → List ℕ → Check
 lengths n matrices columns = single 2 (all (eqb (n * n)) matrices && all (eqb n) columns)
 
--- 3. every amount is within 1,000,000,000, of a table in x, F, E, M, V, X
-abbrev pub tableAmounts : Table → Check
-tableAmounts t =
-    let cells = t .flows ++ t .finalDemand ++ t .exports ++ t .imports ++ t .valueAdded ++ t .production in
-    each 3 (length cells) (within 1000000000 cells)
+-- 3. every cell of a slice is within its limit; its places are counted on from the cells before it
+abbrev pub amounts : ℕ → ℕ → List ℕ → Check
+amounts offset limit s = record { number = 3; offset = offset; places = length s; passes = within limit s }
 
--- and every share within one: for induced amounts in a, m, v, then F
-abbrev pub inducedAmounts : List ℕ → List ℕ → List ℕ → List ℕ → Check
-inducedAmounts a m v F =
-    let shares = a ++ m ++ v in
-    each 3 (length (shares ++ F)) (λ i. within (cond (ltb i (length shares)) one 1000000000) (shares ++ F) i)
+abbrev pub amountLimit : ℕ
+amountLimit = 1000000000
+
+-- of a table the amounts of x, F, E, M, V, X
+abbrev pub tableAmounts : Table → List Check
+tableAmounts t =
+    let n = t .sectors in
+    amounts 0 amountLimit (t .flows)
+    ∷ amounts (n * n) amountLimit (t .finalDemand)
+    ∷ amounts (n * n + n) amountLimit (t .exports)
+    ∷ amounts (n * n + n + n) amountLimit (t .imports)
+    ∷ amounts (n * n + n + n + n) amountLimit (t .valueAdded)
+    ∷ amounts (n * n + n + n + n + n) amountLimit (t .production)
+    ∷ []
+
+-- for induced amounts the shares of a, m, v, then the amounts of F
+abbrev pub inducedAmounts : ℕ → (a m v F : List ℕ) → List Check
+inducedAmounts n a m v F =
+    amounts 0 one a ∷ amounts (n * n) one m ∷ amounts (n * n + n) one v ∷ amounts (n * n + n + n) amountLimit F ∷ []
 
 module _ (t : Table) where
   -- 4. every column balances

@@ -3,7 +3,6 @@ use cells::copy_cells;
 use cells::fill_zero;
 use cells::turn;
 use checks::check_matrix;
-use checks::have_length;
 use checks::starts_within;
 use model::Answer;
 use model::Outcome;
@@ -76,16 +75,6 @@ fn settle(
     outcome
 }
 
-// Question 2 of the slices of n cells that production and price are lent.
-fn lent_fit(n: usize, start_len: usize, out_len: usize, work_len: usize) -> bool
-    ensures { λ r. ⌜ r ≡ all (eqb n) («start_len» ∷ «out_len» ∷ «work_len» ∷ []) ⌝ }
-{
-    if n != start_len {
-        return false;
-    }
-    have_length(n, out_len, work_len)
-}
-
 // Questions 1, 2, 7 and 8 of a start and its limit.
 fn check_start(
     n: usize,
@@ -97,8 +86,9 @@ fn check_start(
 ) -> Answer
     ensures { λ r. ⌜ report r ≡ verdict (matrixChecks n (now (d .entry)) [] (length (now (start .entry)) ∷ «out_len» ∷ «work_len» ∷ []) ++ (starts n limit (now (start .entry)) ∷ [])) 0 ⌝ }
 {
-    let fit = lent_fit(n, start.len(), out_len, work_len);
-    let matrix = check_matrix(n, d, fit);
+    let matrices = [d.len()];
+    let lent = [start.len(), out_len, work_len];
+    let matrix = check_matrix(n, d, &matrices, &lent);
     if let Answer::Refused { number, place } = matrix {
         return Answer::Refused { number, place };
     }

@@ -1,6 +1,6 @@
 -- Lists written from the front, lists made by a rule, searches, and the test for sameness. Assumes nothing.
 use mathlib.Core.Bool.{Bool, true, false, _&&_, false≢true}
-use mathlib.Core.List.{List, _∷_}
+use mathlib.Core.List.{List, [], _∷_}
 use mathlib.Core.Path.{_≡_, refl, sym, ap, _∙_}
 use Prim.Native.Nat.{ℕ, zero, suc, _+_, _<_, _≤_, suc-le-suc}
 use native.Mathlib.Nat.{not-suc-le-zero, le-of-suc-le-suc, le-step, lt-suc-self, zero-lt-suc, ne-of-lt, lt-of-lt-of-le, le-refl}
@@ -103,13 +103,23 @@ pub and-true : (a b : Bool) → a && b ≡ true → (a ≡ true) × (b ≡ true)
 and-true true b e = (refl, e)
 and-true false b e = absurd (false≢true e)
 
+and-last-false : (b : Bool) → b && false ≡ false
+and-last-false true = refl
+and-last-false false = refl
+
 -- every length of a list is n
 pub all-equal : (n x : ℕ) (xs : List ℕ) → all (eqb n) (x ∷ xs) ≡ true → (x ≡ n) × (all (eqb n) xs ≡ true)
 all-equal n x xs e = let p = and-true (eqb n x) (all (eqb n) xs) e in (sym (eqb-true n x (p .0)), p .1)
 
-pub and-last : (b : Bool) → b ≡ b && true
-and-last true = refl
-and-last false = refl
+-- by a scan: where every number of a list passes, and where one does not
+pub all-passed : (p : ℕ → Bool) (xs : List ℕ) → ((k : ℕ) → k < length xs → p (cell xs k) ≡ true) → all p xs ≡ true
+all-passed p [] h = refl
+all-passed p (x ∷ xs) h = rw (h 0 (zero-lt-suc (length xs))) (all-passed p xs (λ k lt. h (suc k) (suc-le-suc lt)))
+
+pub all-failed : (p : ℕ → Bool) (xs : List ℕ) (k : ℕ) → k < length xs → p (cell xs k) ≡ false → all p xs ≡ false
+all-failed p [] k h e = absurd (not-suc-le-zero h)
+all-failed p (x ∷ xs) zero h e = rw e
+all-failed p (x ∷ xs) (suc k) h e = rw (all-failed p xs k (le-of-suc-le-suc h) e) (and-last-false (p x))
 
 pub same-equal : (n : ℕ) (a b : List ℕ) → same n a b ≡ true → Equal n a b
 same-equal zero a b e = λ i h. absurd (not-suc-le-zero h)

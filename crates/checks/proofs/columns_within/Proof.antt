@@ -8,7 +8,7 @@ use Rattle.model.specs.Numbers.{sum, at, transposed}
 use Rattle.model.specs.Checks.{columnSums}
 use Rattle.theory.proofs.Sums.{sum-more, sum-over, sum-under, cell-in}
 use Rattle.theory.proofs.Lists.{All, all-none, all-more}
-use Rattle.theory.proofs.Verdicts.{passed, failed}
+use Rattle.theory.proofs.Verdicts.{passed, failed-each}
 use Rattle.checks.proofs.columns_within.Statement.{statement}
 use Rattle.checks.proofs.columns_within.Tie as tie
 
@@ -58,7 +58,7 @@ returns-2 c =
     let p = c .before .before .before .before .before in
     let a = p .before .args in
     let over = sum-over (column p) (l .i) _ (l .sum) 950000 (l .inv .1) (c .before .before .loop-test .taken) (c .if2 .taken) in
-    sym (failed (columnSums (a .n) (at (a .n) (a .d .now))) [] 0 (p .scan .j) (c .before .before .before .before .if1 .left) (p .scan .inv .1) over)
+    sym (failed-each 7 (a .n) (columnSums (a .n) (at (a .n) (a .d .now)) .passes) [] 0 (p .scan .j) (c .before .before .before .before .if1 .left) (p .scan .inv .1) over)
 
 pub columns-within-spec : {M : Type 1} → statement M
 columns-within-spec =

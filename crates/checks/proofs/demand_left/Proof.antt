@@ -7,7 +7,7 @@ use borrow.Author.Tests.{lt-leb, le-leb}
 use Rattle.model.specs.Numbers.{at}
 use Rattle.model.specs.Checks.{demandLeft}
 use Rattle.theory.proofs.Lists.{All, all-none, all-more}
-use Rattle.theory.proofs.Verdicts.{passed, failed}
+use Rattle.theory.proofs.Verdicts.{passed, failed-each}
 use Rattle.checks.proofs.demand_left.Statement.{statement}
 use Rattle.checks.proofs.demand_left.Tie as tie
 
@@ -28,7 +28,7 @@ returns c =
     let l = c .before .before .before .before .loop in
     let a = c .before .before .before .before .before .before .before .args in
     let h = c .before .before .before .loop-test .taken in
-    sym (failed (demandLeft (a .n) (at (a .n) (a .d .now)) (a .y .now)) [] 0 (l .i) h (l .inv .1) (lt-leb _ _ (rw (c .before .intermediate-use .ensures) at (c .if1 .taken))))
+    sym (failed-each 10 (a .n) (demandLeft (a .n) (at (a .n) (a .d .now)) (a .y .now) .passes) [] 0 (l .i) h (l .inv .1) (lt-leb _ _ (rw (c .before .intermediate-use .ensures) at (c .if1 .taken))))
 
 loop-again : tie.Need-loop-again Inv-loop μ-loop
 loop-again c =

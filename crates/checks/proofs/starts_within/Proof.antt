@@ -6,7 +6,7 @@ use native.Mathlib.Omega.{arith}
 use borrow.Author.Tests.{lt-leb, le-leb}
 use Rattle.model.specs.Checks.{starts, within}
 use Rattle.theory.proofs.Lists.{All, all-none, all-more}
-use Rattle.theory.proofs.Verdicts.{passed, failed}
+use Rattle.theory.proofs.Verdicts.{passed, failed-each}
 use Rattle.checks.proofs.starts_within.Statement.{statement}
 use Rattle.checks.proofs.starts_within.Tie as tie
 
@@ -20,7 +20,7 @@ returns : tie.Need-returns Inv-loop μ-loop
 returns c =
     let l = c .before .before .before .loop in
     let a = c .before .before .before .before .args in
-    sym (failed (starts (a .n) (a .limit) (a .s .now)) [] 0 (l .i) (omega arith) (l .inv .1) (lt-leb _ _ (c .if1 .taken)))
+    sym (failed-each 8 (a .n) (within (a .limit) (a .s .now)) [] 0 (l .i) (omega arith) (l .inv .1) (lt-leb _ _ (c .if1 .taken)))
 
 loop-again : tie.Need-loop-again Inv-loop μ-loop
 loop-again c =

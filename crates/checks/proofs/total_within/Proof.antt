@@ -9,7 +9,7 @@ use Rattle.model.specs.Numbers.{sum, cell}
 use Rattle.model.specs.Checks.{productionTotal}
 use Rattle.theory.proofs.Sums.{sum-more, sum-over, sum-under}
 use Rattle.theory.proofs.Lists.{All, all-none, all-more}
-use Rattle.theory.proofs.Verdicts.{passed, failed}
+use Rattle.theory.proofs.Verdicts.{passed, failed-each}
 use Rattle.checks.proofs.total_within.Statement.{statement}
 use Rattle.checks.proofs.total_within.Tie as tie
 
@@ -25,7 +25,7 @@ returns c =
     let l = c .before .before .before .loop in
     let a = c .before .before .before .before .args in
     let over = sum-over (cell (a .y .now)) (l .i) (suc (l .i)) (l .total) 1600000000000 (l .inv .1) (lt-suc-self (l .i)) (c .if1 .taken) in
-    sym (failed (productionTotal (a .n) (a .y .now)) [] 0 (l .i) (omega arith) (l .inv .3) over)
+    sym (failed-each 8 (a .n) (productionTotal (a .n) (a .y .now) .passes) [] 0 (l .i) (omega arith) (l .inv .3) over)
 
 loop-again : tie.Need-loop-again Inv-loop μ-loop
 loop-again c =

@@ -1,18 +1,19 @@
 -- `rounds::check_start` meets its contract: each way out has its law. Assumes nothing.
 use mathlib.Core.List.{List, [], _∷_}
-use mathlib.Core.Path.{_≡_, _∙_}
-use Prim.Native.Nat.{ℕ}
+use mathlib.Core.Path.{_∙_}
+use Prim.Native.Nat.{ℕ, _*_}
 use borrow.Author.Needs.{needs}
 use lib.ListN.{length}
-use Rattle.model.specs.Checks.{Check, report, verdict, starts}
+use Rattle.model.specs.Checks.{Check, starts}
 use Rattle.model.specs.Calls.{matrixChecks}
+use Rattle.theory.proofs.Lists.{all-equal}
 use Rattle.theory.proofs.Verdicts.{answered-pass, answered-on, answered-stop, first-length}
 use Rattle.rounds.proofs.check_start.Statement.{statement}
 use Rattle.rounds.proofs.check_start.Tie as tie
 
 -- questions 1, 2 and 7 of the call's slices, what was answered to them, and question 8
 abbrev entry : tie.After-check-matrix → tie.Start
-entry q = q .before .before .before .before
+entry q = q .before .before .before .before .before
 
 abbrev lent : tie.After-check-matrix → List ℕ
 lent q = entry q .args .out-len ∷ entry q .args .work-len ∷ []
@@ -23,28 +24,30 @@ asked q = let a = entry q .args in matrixChecks (a .n) (a .d .now) [] (length (a
 abbrev last : tie.After-check-matrix → List Check
 last q = let a = entry q .args in starts (a .n) (a .limit) (a .start .now) ∷ []
 
-said : (q : tie.After-check-matrix) → report (q .check-matrix .result) ≡ verdict (asked q) 0
-said q = q .check-matrix .ensures (length (entry q .args .start .now) ∷ lent q) (q .before .lent-fit .ensures)
+check-matrix-requires : tie.Need-check-matrix-requires
+check-matrix-requires c κs e =
+    let a = c .before .before .before .before .args in
+    all-equal (a .n * a .n) (length (a .d .now)) [] e .0
 
 returns : tie.Need-returns
 returns c =
     let q = c .before .before .before in
-    answered-stop (asked q) (said q) (last q) 0 (c .before .matrix .given .1)
+    answered-stop (asked q) (q .check-matrix .ensures) (last q) 0 (c .before .matrix .given .1)
 
 starts-within-requires : tie.Need-starts-within-requires
 starts-within-requires c κs =
     let q = c .before .before in
     let a = entry q .args in
-    first-length (a .n) (a .d .now) [] (lent q) (length (a .start .now)) (answered-pass (asked q) (said q) (c .enum-told .given .1))
+    first-length (a .n) (a .d .now) [] (lent q) (length (a .start .now)) (answered-pass (asked q) (q .check-matrix .ensures) (c .enum-told .given .1))
 
 returns-2 : tie.Need-returns-2
 returns-2 c =
     let q = c .before .before .before in
-    c .starts-within .ensures ∙ answered-on (asked q) (said q) (last q) 0 (c .before .enum-told .given .1)
+    c .starts-within .ensures ∙ answered-on (asked q) (q .check-matrix .ensures) (last q) 0 (c .before .enum-told .given .1)
 
 pub check-start-spec : {M : Type 1} → statement M
 check-start-spec =
     tie.close
     (tie.spec
-    (λ c κs. search needs) (λ c κs. search needs) (λ c. search needs) returns (λ c. search needs)
+    (λ c. search needs) (λ c. search needs) check-matrix-requires (λ c. search needs) returns (λ c. search needs)
     starts-within-requires returns-2)
