@@ -9,18 +9,8 @@ use Rattle.model.specs.Table.{Table, inputCoefficient, valueAddedCoeffic
 use Rattle.model.specs.Rounds.{settling, inverseRounds}
 use Rattle.model.specs.Checks.{Report, Check, verdict, single, size, lengths, tableAmounts, inducedAmounts, columnBalances, rowBalances, importsCovered, columnSums, starts, demandLimit, riseLimit, productionTotal, settles, columnsSettle, demandLeft}
 
--- Sheets from a table ask 1 to 7
 module _ (t : Table) where
-  unfoldable pub coefficientsReport : List ℕ → List ℕ → Report
-  coefficientsReport matrices lent =
-      let n = t .sectors in
-      let columns = length (t .finalDemand) ∷ length (t .exports) ∷ length (t .imports) ∷ length (t .valueAdded) ∷ length (t .production) ∷ lent in
-      verdict
-      (size n ∷ lengths n (length (t .flows) ∷ matrices) columns
-      ∷ tableAmounts t ++ (columnBalances t ∷ rowBalances t ∷ importsCovered t ∷ columnSums n (domesticCoefficient t) ∷ []))
-      0
-
-  -- its results: a, v, m, d and f
+  -- The results of sheets from a table: a, v, m, d and f
   unfoldable pub inputCoefficients : List ℕ
   inputCoefficients = matrix (t .sectors) (inputCoefficient t)
 
@@ -35,6 +25,17 @@ module _ (t : Table) where
 
   unfoldable pub domesticDemands : List ℕ
   domesticDemands = tabulate (t .sectors) (domesticDemand t)
+
+  -- Sheets from a table ask 1 to 7
+  abbrev pub tableChecks : List ℕ → List ℕ → List Check
+  tableChecks matrices lent =
+      let columns = length (t .finalDemand) ∷ length (t .exports) ∷ length (t .imports) ∷ length (t .valueAdded) ∷ length (t .production) ∷ lent in
+      size (t .sectors) ∷ lengths (t .sectors) (length (t .flows) ∷ matrices) columns
+      ∷ tableAmounts t ++ (columnBalances t ∷ rowBalances t ∷ importsCovered t ∷ [])
+
+  unfoldable pub coefficientsReport : List ℕ → List ℕ → Report
+  coefficientsReport matrices lent =
+      verdict (tableChecks matrices lent ++ (columnSums (t .sectors) (at (t .sectors) domesticCoefficients) ∷ [])) 0
 
 module _ (n : ℕ) (d : List ℕ) where
   -- Every call on a domestic sheet asks 1, 2 and 7 first

@@ -5,7 +5,7 @@ use Prim.Native.Nat.{ℕ, suc, _+_, _*_}
 use lib.Dec.{eqb, leb, ltb}
 use lib.ListN.{length, replicate}
 use Rattle.model.specs.Numbers.{one, sum, first, all, cell, at, transposed}
-use Rattle.model.specs.Table.{Table, flow, absorption}
+use Rattle.model.specs.Table.{Table, flow, need}
 use Rattle.model.specs.Rounds.{intermediate, settling, unit}
 use Rattle.model.specs.declared.Answer.{Answer}
 use Rattle.model.specs.declared.Answer.the-variants.{Accepted, Refused}
@@ -107,11 +107,11 @@ module _ (t : Table) where
   abbrev pub rowBalances : Check
   rowBalances =
       each 5 (t .sectors)
-      (λ i. eqb (absorption t i + cell (t .exports) i) (cell (t .production) i + cell (t .imports) i))
+      (λ i. eqb (need t i + cell (t .exports) i) (cell (t .production) i + cell (t .imports) i))
 
   -- 6. a sector's imports are at most its domestic need
   abbrev pub importsCovered : Check
-  importsCovered = each 6 (t .sectors) (λ i. leb (cell (t .imports) i) (absorption t i))
+  importsCovered = each 6 (t .sectors) (λ i. leb (cell (t .imports) i) (need t i))
 
 -- 7. every column sum of domestic coefficients is at most 950,000
 abbrev pub columnSums : ℕ → (ℕ → ℕ → ℕ) → Check

@@ -1,7 +1,7 @@
 -- Document 01, "Rounds". A coefficient function c gives the direction of a domestic matrix d: production reads `at n d`, prices read
 -- `transposed (at n d)`. The start s is a demand for domestic goods, or a direct rise.
 use mathlib.Core.Path.{_≡_}
-use mathlib.Core.Bool.{Bool, true, false, not, _&&_}
+use mathlib.Core.Bool.{Bool, true, false, not, _&&_, cond}
 use mathlib.Core.List.{List, []}
 use Prim.Native.Nat.{ℕ, zero, suc, _+_, _*_, _-_, _/_, _≤_, _<_}
 use lib.Dec.{eqb, leb, ltb}
@@ -71,7 +71,7 @@ inducedImports n a m F y = tabulate n (λ i. portion (cell m i) (intermediate n 
 
 -- a demand of one in sector j and 0 elsewhere
 unfoldable pub unit : ℕ → ℕ → List ℕ
-unit n j = tabulate n (λ i. elim (eqb i j) [ true ↦ one | false ↦ 0 ])
+unit n j = tabulate n (λ i. cond (eqb i j) one 0)
 
 -- The inverse sheet (Leontief inverse): column j is the production settled from one in sector j. The budget holds for each column
 unfoldable pub inverse : ℕ → List ℕ → ℕ → List ℕ
@@ -88,5 +88,4 @@ dispersion n z = tabulate n (λ j. sum n (transposed z j) * n * one / sum n (λ 
 
 -- A sector's row of a sheet: n cells from sector × n; empty where question 1 or 2 fails or the sector is not below n
 unfoldable pub rowSlice : ℕ → List ℕ → ℕ → List ℕ
-rowSlice n d i =
-    elim (leb 1 n && leb n 40 && eqb (length d) (n * n) && ltb i n) [ true ↦ take n (drop (i * n) d) | false ↦ [] ]
+rowSlice n d i = cond (leb 1 n && leb n 40 && eqb (n * n) (length d) && ltb i n) (take n (drop (i * n) d)) []

@@ -21,14 +21,17 @@ share part whole = part * one / whole
 abbrev pub portion : ℕ → ℕ → ℕ
 portion m amount = m * amount / one
 
+-- Domestic need of sector i: what all sectors buy of it, and final demand; exports are not in it
+unfoldable pub absorption : ℕ → List ℕ → List ℕ → ℕ → ℕ
+absorption n x F i = sum n (at n x i) + cell F i
+
 module _ (t : Table) where
   -- x(i,j)
   abbrev pub flow : ℕ → ℕ → ℕ
   flow = at (t .sectors) (t .flows)
 
-  -- Domestic need: exports are not in it
-  unfoldable pub absorption : ℕ → ℕ
-  absorption i = sum (t .sectors) (flow i) + cell (t .finalDemand) i
+  abbrev pub need : ℕ → ℕ
+  need = absorption (t .sectors) (t .flows) (t .finalDemand)
 
   -- Input coefficient a(i,j)
   unfoldable pub inputCoefficient : ℕ → ℕ → ℕ
@@ -40,7 +43,7 @@ module _ (t : Table) where
 
   -- Import share m(i)
   unfoldable pub importCoefficient : ℕ → ℕ
-  importCoefficient i = share (cell (t .imports) i) (absorption i)
+  importCoefficient i = share (cell (t .imports) i) (need i)
 
   -- Domestic coefficient d(i,j)
   unfoldable pub domesticCoefficient : ℕ → ℕ → ℕ

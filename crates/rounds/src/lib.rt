@@ -50,7 +50,7 @@ fn run_rounds(
 }
 
 // The settled amounts of a start, or number 9 with the outputs at 0; the work cells are cleared.
-fn settle(
+pub fn settle(
     n: usize,
     d: &[u64],
     transposed: bool,
