@@ -1,12 +1,13 @@
 // Leaves over lent slices. `transposed` gives the direction of a matrix: along its rows, or down its columns.
 ghost use mathlib.Core.Bool.{_&&_};
 ghost use mathlib.Core.Path.{_≡_};
-ghost use Prim.Native.Nat.{ℕ, _+_, _*_, _<_, _≤_};
+ghost use Prim.Native.Nat.{ℕ, _+_, _*_, _^_, _<_, _≤_};
 ghost use lib.Dec.{eqb};
 ghost use lib.ListN.{length, replicate};
 ghost use Rattle.model.specs.Numbers.{at, cell, oriented, same};
+ghost use Rattle.model.specs.Table.{portion, share};
 ghost use Rattle.model.specs.Rounds.{intermediate, round, weighted};
-ghost use Rattle.model.specs.Checks.{demandLimit};
+ghost use Rattle.model.specs.Checks.{amountLimit, demandLimit};
 ghost use Rattle.theory.specs.Bounds.{sumLimit};
 
 // Sets every cell to 0.
@@ -28,6 +29,25 @@ pub fn copy_cells(src: &[u64], dst: &mut [u64])
     for i in 0..src.len() {
         dst[i] = src[i];
     }
+}
+
+// A part of a whole in millionths, rounded down; 0 where the whole is 0.
+pub fn share_of(part: u64, whole: u64) -> u64
+    requires { ⌜ part ≤ amountLimit ⌝ }
+    ensures { λ r. ⌜ r ≡ share part whole ⌝ }
+{
+    if whole == 0 {
+        return 0;
+    }
+    part * 1_000_000 / whole
+}
+
+// The part of an amount that a share in millionths takes, rounded down.
+pub fn portion_of(m: u64, amount: u64) -> u64
+    requires { ⌜ m * amount < 2 ^ 64 ⌝ }
+    ensures { λ r. ⌜ r ≡ portion m amount ⌝ }
+{
+    m * amount / 1_000_000
 }
 
 // The coefficient in row i and column j; of the transposed matrix the one in row j and column i.

@@ -2,14 +2,14 @@
 use cells::intermediate_use;
 use model::Answer;
 ghost use mathlib.Core.Bool.{true, _&&_};
-ghost use mathlib.Core.List.{List, [], _∷_};
+ghost use mathlib.Core.List.{List, [], _∷_, _++_};
 ghost use mathlib.Core.Path.{_≡_};
-ghost use Prim.Native.Nat.{ℕ, _*_, _<_, _≤_};
+ghost use Prim.Native.Nat.{ℕ, _+_, _*_, _^_, _<_, _≤_};
 ghost use lib.Dec.{eqb, leb};
 ghost use lib.ListN.{length};
 ghost use Rattle.model.specs.Numbers.{all, at, cell};
 ghost use Rattle.model.specs.Rounds.{weighted};
-ghost use Rattle.model.specs.Checks.{report, verdict, size, lengths, columnSums, starts, productionTotal, demandLeft};
+ghost use Rattle.model.specs.Checks.{Check, report, verdict, bounded, size, lengths, columnSums, productionTotal, demandLeft};
 ghost use Rattle.theory.specs.Bounds.{sumLimit};
 
 // Question 1: is n from 1 to 40?
@@ -59,6 +59,53 @@ pub fn check_sizes(n: usize, matrices: &[usize], lent: &[usize]) -> Answer
     Answer::Accepted
 }
 
+// Question 3 of a matrix: is every cell within the limit? The place is the cell's, row by row.
+pub fn matrix_within(n: usize, x: &[u64], limit: u64) -> Answer
+    requires { ⌜ length (now x) ≡ n * n ⌝ }
+    ensures { λ r. ⌜ report r ≡ verdict (bounded 3 0 limit (now (x .entry)) ∷ []) 0 ⌝ }
+{
+    let mut i = 0;
+    'scan: loop {
+        if n <= i {
+            break 'scan Answer::Accepted;
+        }
+        for j in 0..n {
+            let place = i * n + j;
+            if limit < x[place] {
+                break 'scan Answer::Refused { number: 3, place };
+            }
+        }
+        i += 1;
+    }
+}
+
+// Is every cell of a slice within the limit? The check's number is given, and its places count on from an offset.
+pub fn cells_within(number: u8, offset: usize, limit: u64, s: &[u64]) -> Answer
+    requires { ⌜ offset + length (now s) < 2 ^ 64 ⌝ }
+    ensures { λ r. ⌜ report r ≡ verdict (bounded number offset limit (now (s .entry)) ∷ []) 0 ⌝ }
+{
+    for i in 0..s.len() {
+        if limit < s[i] {
+            return Answer::Refused {
+                number,
+                place: offset + i,
+            };
+        }
+    }
+    Answer::Accepted
+}
+
+// Question 3 of one slice more, after checks that were answered `so_far`.
+pub fn next_within(so_far: Answer, offset: usize, limit: u64, s: &[u64]) -> Answer
+    requires { ⌜ offset + length (now s) < 2 ^ 64 ⌝ }
+    ensures { λ r. ⌜ ((ps : List Check) → report «so_far» ≡ verdict ps 0 → report r ≡ verdict (ps ++ (bounded 3 offset limit (now (s .entry)) ∷ [])) 0) ⌝ }
+{
+    match so_far {
+        Answer::Refused { number, place } => Answer::Refused { number, place },
+        Answer::Accepted => cells_within(3, offset, limit, s),
+    }
+}
+
 // Question 7: is every column sum at most 950,000? A column is left at the first cell that takes its sum over.
 pub fn columns_within(n: usize, d: &[u64]) -> Answer
     requires { ⌜ length (now d) ≡ n * n ⌝ }
@@ -94,22 +141,6 @@ pub fn check_matrix(n: usize, d: &[u64], matrices: &[usize], lent: &[usize]) -> 
         return Answer::Refused { number, place };
     }
     columns_within(n, d)
-}
-
-// Question 8 of a demand for domestic goods or a direct rise: is every amount at most the limit?
-pub fn starts_within(n: usize, s: &[u64], limit: u64) -> Answer
-    requires { ⌜ length (now s) ≡ n ⌝ }
-    ensures { λ r. ⌜ report r ≡ verdict (starts n limit (now (s .entry)) ∷ []) 0 ⌝ }
-{
-    for i in 0..n {
-        if limit < s[i] {
-            return Answer::Refused {
-                number: 8,
-                place: i,
-            };
-        }
-    }
-    Answer::Accepted
 }
 
 // Question 8 of a given production: is the running total at most 1,600,000,000,000 in every sector?

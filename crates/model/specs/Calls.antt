@@ -7,7 +7,7 @@ use lib.ListN.{length}
 use Rattle.model.specs.Numbers.{tabulate, at, matrix, transposed}
 use Rattle.model.specs.Table.{Table, inputCoefficient, valueAddedCoefficient, importCoefficient, domesticCoefficient, domesticDemand}
 use Rattle.model.specs.Rounds.{settling, inverseRounds}
-use Rattle.model.specs.Checks.{Report, Check, verdict, single, size, lengths, tableAmounts, inducedAmounts, columnBalances, rowBalances, importsCovered, columnSums, starts, demandLimit, riseLimit, productionTotal, settles, columnsSettle, demandLeft}
+use Rattle.model.specs.Checks.{Report, Check, verdict, single, size, lengths, tableAmounts, inducedAmounts, columnBalances, rowBalances, importsCovered, columnSums, bounded, demandLimit, riseLimit, productionTotal, settles, columnsSettle, demandLeft}
 
 module _ (t : Table) where
   -- The results of sheets from a table: a, v, m, d and f
@@ -45,7 +45,7 @@ module _ (n : ℕ) (d : List ℕ) where
   -- Production and price ask 1, 2, 7, 8, 9
   abbrev pub settlingChecks : (ℕ → ℕ → ℕ) → ℕ → List ℕ → ℕ → List ℕ → List Check
   settlingChecks c limit s budget lent =
-      matrixChecks [] (length s ∷ lent) ++ (starts n limit s ∷ single 9 (settles n c s budget) ∷ [])
+      matrixChecks [] (length s ∷ lent) ++ (bounded 8 0 limit s ∷ single 9 (settles n c s budget) ∷ [])
 
   abbrev pub settlingReport : (ℕ → ℕ → ℕ) → ℕ → List ℕ → ℕ → List ℕ → Report
   settlingReport c limit s budget lent = verdict (settlingChecks c limit s budget lent) (settling n c s budget)

@@ -61,8 +61,12 @@ each k n p = record { number = k; offset = 0; places = n; passes = p }
 abbrev pub single : ℕ → Bool → Check
 single k b = each k 1 (λ _. b)
 
+-- check k of a slice, every cell of which is to be within a limit; its places count on from an offset
 abbrev pub within : ℕ → List ℕ → ℕ → Bool
 within limit xs i = leb (cell xs i) limit
+
+abbrev pub bounded : ℕ → ℕ → ℕ → List ℕ → Check
+bounded k offset limit s = record { number = k; offset = offset; places = length s; passes = within limit s }
 
 -- 1. n is from 1 to 40
 abbrev pub size : ℕ → Check
@@ -72,10 +76,7 @@ size n = single 1 (leb 1 n && leb n 40)
 abbrev pub lengths : ℕ → List ℕ → List ℕ → Check
 lengths n matrices columns = single 2 (all (eqb (n * n)) matrices && all (eqb n) columns)
 
--- 3. every cell of a slice is within its limit; its places are counted on from the cells before it
-abbrev pub amounts : ℕ → ℕ → List ℕ → Check
-amounts offset limit s = record { number = 3; offset = offset; places = length s; passes = within limit s }
-
+-- 3. every amount is within 1,000,000,000, and every share within one
 abbrev pub amountLimit : ℕ
 amountLimit = 1000000000
 
@@ -83,18 +84,18 @@ amountLimit = 1000000000
 abbrev pub tableAmounts : Table → List Check
 tableAmounts t =
     let n = t .sectors in
-    amounts 0 amountLimit (t .flows)
-    ∷ amounts (n * n) amountLimit (t .finalDemand)
-    ∷ amounts (n * n + n) amountLimit (t .exports)
-    ∷ amounts (n * n + n + n) amountLimit (t .imports)
-    ∷ amounts (n * n + n + n + n) amountLimit (t .valueAdded)
-    ∷ amounts (n * n + n + n + n + n) amountLimit (t .production)
+    bounded 3 0 amountLimit (t .flows)
+    ∷ bounded 3 (n * n) amountLimit (t .finalDemand)
+    ∷ bounded 3 (n * n + n) amountLimit (t .exports)
+    ∷ bounded 3 (n * n + n + n) amountLimit (t .imports)
+    ∷ bounded 3 (n * n + n + n + n) amountLimit (t .valueAdded)
+    ∷ bounded 3 (n * n + n + n + n + n) amountLimit (t .production)
     ∷ []
 
 -- for induced amounts the shares of a, m, v, then the amounts of F
 abbrev pub inducedAmounts : ℕ → (a m v F : List ℕ) → List Check
 inducedAmounts n a m v F =
-    amounts 0 one a ∷ amounts (n * n) one m ∷ amounts (n * n + n) one v ∷ amounts (n * n + n + n) amountLimit F ∷ []
+    bounded 3 0 one a ∷ bounded 3 (n * n) one m ∷ bounded 3 (n * n + n) one v ∷ bounded 3 (n * n + n + n) amountLimit F ∷ []
 
 module _ (t : Table) where
   -- 4. every column balances
@@ -123,9 +124,6 @@ demandLimit = 2000000000
 
 abbrev pub riseLimit : ℕ
 riseLimit = 1000000000
-
-abbrev pub starts : ℕ → ℕ → List ℕ → Check
-starts n limit s = each 8 n (within limit s)
 
 -- and the total of a given production is at most 1,600,000,000,000: the place is the first running total above it
 abbrev pub productionTotal : ℕ → List ℕ → Check

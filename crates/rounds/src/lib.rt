@@ -2,8 +2,8 @@
 use cells::copy_cells;
 use cells::fill_zero;
 use cells::turn;
+use checks::cells_within;
 use checks::check_matrix;
-use checks::starts_within;
 use model::Answer;
 use model::Outcome;
 ghost use mathlib.Core.Bool.{true};
@@ -14,7 +14,7 @@ ghost use lib.Dec.{eqb};
 ghost use lib.ListN.{length, replicate};
 ghost use Rattle.model.specs.Numbers.{all, at, cell, oriented, same, transposed};
 ghost use Rattle.model.specs.Rounds.{round, settled, settling, weighted, Settles};
-ghost use Rattle.model.specs.Checks.{report, reportRounds, verdict, output, single, settles, starts, demandLimit};
+ghost use Rattle.model.specs.Checks.{report, reportRounds, verdict, output, single, settles, bounded, demandLimit};
 ghost use Rattle.model.specs.Calls.{matrixChecks, priceReport, productionReport, settlingReport};
 ghost use Rattle.model.specs.Promises.{AcceptedMatrix, Accurate, AccuratePrices, Distinguishes};
 
@@ -84,7 +84,7 @@ fn check_start(
     out_len: usize,
     work_len: usize,
 ) -> Answer
-    ensures { λ r. ⌜ report r ≡ verdict (matrixChecks n (now (d .entry)) [] (length (now (start .entry)) ∷ «out_len» ∷ «work_len» ∷ []) ++ (starts n limit (now (start .entry)) ∷ [])) 0 ⌝ }
+    ensures { λ r. ⌜ report r ≡ verdict (matrixChecks n (now (d .entry)) [] (length (now (start .entry)) ∷ «out_len» ∷ «work_len» ∷ []) ++ (bounded 8 0 limit (now (start .entry)) ∷ [])) 0 ⌝ }
 {
     let matrices = [d.len()];
     let lent = [start.len(), out_len, work_len];
@@ -92,7 +92,7 @@ fn check_start(
     if let Answer::Refused { number, place } = matrix {
         return Answer::Refused { number, place };
     }
-    starts_within(n, start, limit)
+    cells_within(8, 0, limit, start)
 }
 
 // Asks 1, 2, 7, 8 and 9, and settles the rounds along the rows or, transposed, down the columns.

@@ -10,7 +10,7 @@ use lib.Dec.{eqb, leb}
 use lib.ListN.{length}
 use Rattle.model.specs.Numbers.{sum, all, cell, at}
 use Rattle.model.specs.Rounds.{intermediate, changes, settling, settled, Settles}
-use Rattle.model.specs.Checks.{accepts, refuses, verdict, starts, productionTotal, demandLeft, single, settles}
+use Rattle.model.specs.Checks.{accepts, refuses, verdict, bounded, productionTotal, demandLeft, single, settles}
 use Rattle.model.specs.Calls.{matrixChecks, settlingChecks, settlingReport, impliedReport}
 use Rattle.model.specs.Promises.{AcceptedMatrix}
 use Rattle.theory.proofs.Lists.{All, all-equal}
@@ -25,11 +25,11 @@ pub record Started (n : ℕ) (d : List ℕ) (limit : ℕ) (s lent : List ℕ) : 
   pub small : (i : ℕ) → i < n → cell s i ≤ limit
 
 module _ (n : ℕ) (d : List ℕ) (limit : ℕ) (s lent : List ℕ) where
-  pub started : AllPass (matrixChecks n d [] (length s ∷ lent) ++ (starts n limit s ∷ [])) → Started n d limit s lent
+  pub started : AllPass (matrixChecks n d [] (length s ∷ lent) ++ (bounded 8 0 limit s ∷ [])) → Started n d limit s lent
   started (p, (q, (r, (t, _)))) =
       let m = accepted-matrix n d [] (length s ∷ lent) (p, (q, (r, tt))) in
       let l = all-equal n (length s) lent (m .1) in
-      record { matrix = m .0; start = l .0; slices = l .1; small = λ i h. leb-true (cell s i) limit (t i h) }
+      record { matrix = m .0; start = l .0; slices = l .1; small = λ i h. leb-true (cell s i) limit (t i (rw (l .0) h)) }
 
 -- questions 1, 2, 7 and 8 of a given production pass
 pub record Given (n : ℕ) (d y lent : List ℕ) : Type 0 where

@@ -4,10 +4,10 @@ use mathlib.Core.Path.{_∙_}
 use Prim.Native.Nat.{ℕ, _*_}
 use borrow.Author.Needs.{needs}
 use lib.ListN.{length}
-use Rattle.model.specs.Checks.{Check, starts}
+use Rattle.model.specs.Checks.{Check, bounded}
 use Rattle.model.specs.Calls.{matrixChecks}
 use Rattle.theory.proofs.Lists.{all-equal}
-use Rattle.theory.proofs.Verdicts.{answered-pass, answered-on, answered-stop, first-length}
+use Rattle.theory.proofs.Verdicts.{answered-on, answered-stop}
 use Rattle.rounds.proofs.check_start.Statement.{statement}
 use Rattle.rounds.proofs.check_start.Tie as tie
 
@@ -22,7 +22,7 @@ abbrev asked : tie.After-check-matrix → List Check
 asked q = let a = entry q .args in matrixChecks (a .n) (a .d .now) [] (length (a .start .now) ∷ lent q)
 
 abbrev last : tie.After-check-matrix → List Check
-last q = let a = entry q .args in starts (a .n) (a .limit) (a .start .now) ∷ []
+last q = let a = entry q .args in bounded 8 0 (a .limit) (a .start .now) ∷ []
 
 check-matrix-requires : tie.Need-check-matrix-requires
 check-matrix-requires c κs e =
@@ -34,20 +34,14 @@ returns c =
     let q = c .before .before .before in
     answered-stop (asked q) (q .check-matrix .ensures) (last q) 0 (c .before .matrix .given .1)
 
-starts-within-requires : tie.Need-starts-within-requires
-starts-within-requires c κs =
-    let q = c .before .before in
-    let a = entry q .args in
-    first-length (a .n) (a .d .now) [] (lent q) (length (a .start .now)) (answered-pass (asked q) (q .check-matrix .ensures) (c .enum-told .given .1))
-
 returns-2 : tie.Need-returns-2
 returns-2 c =
     let q = c .before .before .before in
-    c .starts-within .ensures ∙ answered-on (asked q) (q .check-matrix .ensures) (last q) 0 (c .before .enum-told .given .1)
+    c .cells-within .ensures ∙ answered-on (asked q) (q .check-matrix .ensures) (last q) 0 (c .before .enum-told .given .1)
 
 pub check-start-spec : {M : Type 1} → statement M
 check-start-spec =
     tie.close
     (tie.spec
     (λ c. search needs) (λ c. search needs) check-matrix-requires (λ c. search needs) returns (λ c. search needs)
-    starts-within-requires returns-2)
+    (λ c κs. search needs) returns-2)

@@ -7,7 +7,7 @@ use borrow.Author.Needs.{needs}
 use lib.ListN.{length, replicate}
 use Rattle.model.specs.Numbers.{at, oriented}
 use Rattle.model.specs.Rounds.{settling, settled}
-use Rattle.model.specs.Checks.{Check, reportRounds, output, starts, single, settles}
+use Rattle.model.specs.Checks.{Check, reportRounds, output, bounded, single, settles}
 use Rattle.model.specs.Calls.{matrixChecks}
 use Rattle.theory.proofs.Lists.{all-equal}
 use Rattle.theory.proofs.Verdicts.{answered-pass, answered-on, answered-stop}
@@ -28,7 +28,7 @@ coefficients q = let a = entry q .args in oriented (a .transposed) (at (a .n) (a
 abbrev asked : tie.After-check-start → List Check
 asked q =
     let a = entry q .args in
-    matrixChecks (a .n) (a .d .now) [] (length (a .start .now) ∷ lent q) ++ (starts (a .n) (a .limit) (a .start .now) ∷ [])
+    matrixChecks (a .n) (a .d .now) [] (length (a .start .now) ∷ lent q) ++ (bounded 8 0 (a .limit) (a .start .now) ∷ [])
 
 abbrev last : tie.After-check-start → List Check
 last q = let a = entry q .args in single 9 (settles (a .n) (coefficients q) (a .start .now) (a .budget)) ∷ []
