@@ -6,10 +6,10 @@ use mathlib.Core.Bool.{false, true≢false}
 use mathlib.Core.List.{List}
 use Prim.Native.Nat.{ℕ, zero, suc, _+_, _*_, _-_, _/_, _≤_, _<_}
 use native.Mathlib.Omega.{arith}
-use native.Mathlib.Nat.{le-refl, le-of-eq, le-antisymm, mul-le-mul-left, mul-comm, mul-left-comm, le-div-iff-mul-le, mul-div-le, mul-add}
+use native.Mathlib.Nat.{le-refl, le-trans, le-of-eq, le-antisymm, mul-le-mul-left, mul-le-mul-right, mul-comm, mul-left-comm, le-div-iff-mul-le, mul-div-le, mul-add}
 use borrow.Author.Tests.{not-false}
 use lib.ListN.{length}
-use Rattle.model.specs.Numbers.{one, cell, same}
+use Rattle.model.specs.Numbers.{one, sum, cell, same}
 use Rattle.model.specs.Rounds.{product, weighted, intermediate, round, rounds, changes, Settles, ExactBalance, impliedDemand}
 use Rattle.model.specs.Promises.{Equal}
 use Rattle.theory.proofs.Sums.{sum-mono, sum-cong, sum-add, sum-scale}
@@ -28,6 +28,10 @@ module _ (n : ℕ) (c : ℕ → ℕ → ℕ) where
 
   pub weighted-scale : (q : ℕ) (f : ℕ → ℕ) (i : ℕ) → weighted n c (λ j. q * f j) i ≡ q * weighted n c f i
   weighted-scale q f i = sum-cong n (λ j h. mul-left-comm (c i j) q (f j)) ∙ sum-scale n q (product c f i)
+
+  -- coefficients within one take no more than the whole of every amount
+  pub weighted-shares : (f : ℕ → ℕ) (i : ℕ) → ((j : ℕ) → j < n → c i j ≤ one) → weighted n c f i ≤ one * sum n f
+  weighted-shares f i p = le-trans (sum-mono n (λ j h. mul-le-mul-right (f j) (p j h))) (le-of-eq (sum-scale n one f))
 
   -- ---- the quotient: all that is used of it
   pub intermediate-cong : {f g : ℕ → ℕ} → ((j : ℕ) → j < n → f j ≡ g j) → (i : ℕ) → intermediate n c f i ≡ intermediate n c g i

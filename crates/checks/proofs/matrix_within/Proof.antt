@@ -1,7 +1,7 @@
 -- `checks::matrix_within` meets its contract: no cell before row i and column j is over the limit. Assumes nothing.
 use mathlib.Core.List.{[]}
 use mathlib.Core.Path.{_≡_, sym, ap, _∙_}
-use Prim.Native.Nat.{ℕ, _+_, _*_, _≤_, _-_, _<_}
+use Prim.Native.Nat.{_+_, _*_, _≤_, _-_, _<_}
 use native.Mathlib.Nat.{mul-le-mul-right, suc-mul, zero-add}
 use native.Mathlib.Numerals.{add-one}
 use native.Mathlib.Omega.{arith}

@@ -1,0 +1,143 @@
+// Value added and imports that a production induces.
+use cells::fill_zero;
+use cells::intermediate_use;
+use cells::portion_of;
+use checks::check_sizes;
+use checks::matrix_within;
+use checks::next_within;
+use checks::total_within;
+use model::Answer;
+ghost use mathlib.Core.List.{[], _∷_, _++_};
+ghost use mathlib.Core.Path.{_≡_};
+ghost use Prim.Native.Nat.{ℕ, _*_, _<_, _≤_};
+ghost use lib.ListN.{length};
+ghost use Rattle.model.specs.Numbers.{at, cell, one, sum};
+ghost use Rattle.model.specs.Rounds.{inducedImports, inducedValueAdded};
+ghost use Rattle.model.specs.Checks.{amountLimit, inducedAmounts, output, report, verdict, size, lengths};
+ghost use Rattle.model.specs.Calls.{inducedReport};
+
+// Question 3: shares within one, amounts within 1,000,000,000.
+fn check_amounts(n: usize, a: &[u64], m: &[u64], v: &[u64], final_demand: &[u64]) -> Answer
+    requires { ⌜ (n ≤ 40) × (length (now a) ≡ n * n) × (length (now m) ≡ n) × (length (now v) ≡ n) × (length (now «final_demand») ≡ n) ⌝ }
+    ensures { λ r. ⌜ report r ≡ verdict (inducedAmounts n (now (a .entry)) (now (m .entry)) (now (v .entry)) (now («final_demand» .entry))) 0 ⌝ }
+{
+    let inputs = matrix_within(n, a, 1_000_000);
+    let imports = next_within(inputs, n * n, 1_000_000, m);
+    let values = next_within(imports, n * n + n, 1_000_000, v);
+    next_within(values, n * n + n + n, 1_000_000_000, final_demand)
+}
+
+// Induced value added: each sector's share of its production.
+fn fill_value_added(n: usize, v: &[u64], y: &[u64], out: &mut [u64])
+    requires { ⌜ (length (now v) ≡ n) × (length (now y) ≡ n) × (length (now out) ≡ n) ⌝ }
+    requires { ⌜ ((i : ℕ) → i < n → cell (now v) i ≤ one) ⌝ }
+    requires { ⌜ sum n (cell (now y)) ≤ 1600000000000 ⌝ }
+    ensures { λ _. ⌜ now (out .exit) ≡ inducedValueAdded n (now (v .entry)) (now (y .entry)) ⌝ }
+{
+    for j in 0..n {
+        out[j] = portion_of(v[j], y[j]);
+    }
+}
+
+// Induced imports: each sector's import share of what industry and final demand need of it.
+fn fill_imports(n: usize, a: &[u64], m: &[u64], final_demand: &[u64], y: &[u64], out: &mut [u64])
+    requires { ⌜ (length (now a) ≡ n * n) × (length (now m) ≡ n) × (length (now «final_demand») ≡ n) × (length (now y) ≡ n) × (length (now out) ≡ n) ⌝ }
+    requires { ⌜ ((i : ℕ) → i < n * n → cell (now a) i ≤ one) ⌝ }
+    requires { ⌜ ((i : ℕ) → i < n → cell (now m) i ≤ one) ⌝ }
+    requires { ⌜ ((i : ℕ) → i < n → cell (now «final_demand») i ≤ amountLimit) ⌝ }
+    requires { ⌜ sum n (cell (now y)) ≤ 1600000000000 ⌝ }
+    ensures { λ _. ⌜ now (out .exit) ≡ inducedImports n (at n (now (a .entry))) (now (m .entry)) (now («final_demand» .entry)) (now (y .entry)) ⌝ }
+{
+    for i in 0..n {
+        let need = intermediate_use(n, a, false, y, i);
+        out[i] = portion_of(m[i], need + final_demand[i]);
+    }
+}
+
+// Questions 1, 2 and 3.
+fn check_inputs(
+    n: usize,
+    a: &[u64],
+    m: &[u64],
+    v: &[u64],
+    final_demand: &[u64],
+    y_len: usize,
+    value_len: usize,
+    imports_len: usize,
+) -> Answer
+    ensures { λ r. ⌜ report r ≡ verdict (size n ∷ lengths n (length (now (a .entry)) ∷ []) (length (now (m .entry)) ∷ length (now (v .entry)) ∷ length (now («final_demand» .entry)) ∷ «y_len» ∷ «value_len» ∷ «imports_len» ∷ []) ∷ inducedAmounts n (now (a .entry)) (now (m .entry)) (now (v .entry)) (now («final_demand» .entry))) 0 ⌝ }
+{
+    let matrices = [a.len()];
+    let lent = [
+        m.len(),
+        v.len(),
+        final_demand.len(),
+        y_len,
+        value_len,
+        imports_len,
+    ];
+    let sizes = check_sizes(n, &matrices, &lent);
+    if let Answer::Refused { number, place } = sizes {
+        return Answer::Refused { number, place };
+    }
+    check_amounts(n, a, m, v, final_demand)
+}
+
+// Questions 1, 2, 3 and 8.
+fn check_induced(
+    n: usize,
+    a: &[u64],
+    m: &[u64],
+    v: &[u64],
+    final_demand: &[u64],
+    y: &[u64],
+    value_len: usize,
+    imports_len: usize,
+) -> Answer
+    ensures { λ r. ⌜ report r ≡ inducedReport n (now (a .entry)) (now (m .entry)) (now (v .entry)) (now («final_demand» .entry)) (now (y .entry)) («value_len» ∷ «imports_len» ∷ []) ⌝ }
+{
+    let inputs = check_inputs(n, a, m, v, final_demand, y.len(), value_len, imports_len);
+    if let Answer::Refused { number, place } = inputs {
+        return Answer::Refused { number, place };
+    }
+    total_within(n, y)
+}
+
+// Value added and imports that a production induces, from input coefficients, import shares, value shares and final demand. No result is left open.
+pub fn induced(
+    n: usize,
+    a: &[u64],
+    m: &[u64],
+    v: &[u64],
+    final_demand: &[u64],
+    production: &[u64],
+    value: &mut [u64],
+    imports: &mut [u64],
+) -> Answer
+    ensures answer { λ r. ⌜ report r ≡ inducedReport n (now (a .entry)) (now (m .entry)) (now (v .entry)) (now («final_demand» .entry)) (now (production .entry)) (length (now (value .entry)) ∷ length (now (imports .entry)) ∷ []) ⌝ }
+    ensures values { λ r. ⌜ now (value .exit) ≡ output (report r) (length (now (value .entry))) (inducedValueAdded n (now (v .entry)) (now (production .entry))) ⌝ }
+    ensures imported { λ r. ⌜ now (imports .exit) ≡ output (report r) (length (now (imports .entry))) (inducedImports n (at n (now (a .entry))) (now (m .entry)) (now («final_demand» .entry)) (now (production .entry))) ⌝ }
+{
+    let checked = check_induced(
+        n,
+        a,
+        m,
+        v,
+        final_demand,
+        production,
+        value.len(),
+        imports.len(),
+    );
+    match checked {
+        Answer::Refused { number, place } => {
+            fill_zero(value);
+            fill_zero(imports);
+            Answer::Refused { number, place }
+        }
+        Answer::Accepted => {
+            fill_value_added(n, v, production, value);
+            fill_imports(n, a, m, final_demand, production, imports);
+            Answer::Accepted
+        }
+    }
+}
