@@ -13,6 +13,10 @@ pub record Table : Type 0 where
   pub valueAdded : List ℕ
   pub production : List ℕ
 
+abbrev pub tableOf : ℕ → (x F E M «V» X : List ℕ) → Table
+tableOf n x F E M «V» X =
+    record { sectors = n; flows = x; finalDemand = F; exports = E; imports = M; valueAdded = «V»; production = X }
+
 -- part of whole, in millionths
 abbrev pub share : ℕ → ℕ → ℕ
 share part whole = part * one / whole

@@ -1,0 +1,31 @@
+-- `balances::check_amounts` meets its contract: each slice adds its check to those before it. Assumes nothing.
+use borrow.Author.Needs.{needs}
+use lib.ListN.{take}
+use Rattle.model.specs.Table.{tableOf}
+use Rattle.model.specs.Checks.{tableAmounts}
+use Rattle.balances.proofs.check_amounts.Statement.{statement}
+use Rattle.balances.proofs.check_amounts.Tie as tie
+
+returns : tie.Need-returns
+returns c =
+    let q5 = c .before in
+    let q4 = q5 .before in
+    let q3 = q4 .before in
+    let q2 = q3 .before in
+    let q1 = q2 .before in
+    let a = q1 .before .before .before .before .before .before .before .args in
+    let n = a .n in
+    let t = tableAmounts (tableOf n (a .x .now) (a .final-demand .now) (a .exports .now) (a .imports .now) (a .value-added .now) (a .production .now)) in
+    c .next-within5 .ensures (take 5 t)
+    (q5 .next-within4 .ensures (take 4 t)
+    (q4 .next-within3 .ensures (take 3 t)
+    (q3 .next-within2 .ensures (take 2 t) (q2 .next-within .ensures (take 1 t) (q1 .matrix-within .ensures)))))
+
+pub check-amounts-spec : {M : Type 1} → statement M
+check-amounts-spec =
+    tie.close
+    (tie.spec
+    (λ c κs. search needs) (λ c. search needs) (λ c κs. search needs) (λ c. search needs) (λ c κs. search needs)
+    (λ c. search needs) (λ c. search needs) (λ c κs. search needs) (λ c. search needs) (λ c. search needs) (λ c. search needs)
+    (λ c κs. search needs) (λ c. search needs) (λ c. search needs) (λ c. search needs) (λ c. search needs) (λ c κs. search needs)
+    returns)
