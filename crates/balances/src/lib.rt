@@ -4,12 +4,16 @@ use checks::matrix_within;
 use checks::next_within;
 use model::Answer;
 ghost use mathlib.Core.List.{List, [], _∷_, _++_};
+ghost use mathlib.Core.Bool.{true};
 ghost use mathlib.Core.Path.{_≡_};
 ghost use Prim.Native.Nat.{ℕ, _*_, _<_, _≤_};
+ghost use lib.Dec.{eqb};
 ghost use lib.ListN.{length};
-ghost use Rattle.model.specs.Numbers.{cell};
+ghost use Rattle.model.specs.Numbers.{all, cell};
 ghost use Rattle.model.specs.Table.{absorption, tableOf};
-ghost use Rattle.model.specs.Checks.{amountLimit, columnBalances, importsCovered, report, rowBalances, tableAmounts, verdict};
+ghost use Rattle.model.specs.Checks.{amountLimit, balanceChecks, columnBalances, importsCovered, lengths, report, rowBalances, size, tableAmounts, verdict};
+ghost use Rattle.model.specs.Calls.{tableChecks};
+ghost use Rattle.theory.specs.Tables.{TableAmounts, TableSizes};
 
 // Domestic need of sector i: what all sectors buy of it, and final demand.
 pub fn need_of(n: usize, x: &[u64], final_demand: &[u64], i: usize) -> u64
@@ -118,4 +122,113 @@ fn imports_covered(n: usize, x: &[u64], final_demand: &[u64], imports: &[u64]) -
         }
     }
     Answer::Accepted
+}
+
+// Questions 4, 5 and 6.
+fn check_balances(
+    n: usize,
+    x: &[u64],
+    final_demand: &[u64],
+    exports: &[u64],
+    imports: &[u64],
+    value_added: &[u64],
+    production: &[u64],
+) -> Answer
+    requires { ⌜ TableSizes (tableOf n (now x) (now «final_demand») (now exports) (now imports) (now «value_added») (now production)) ⌝ }
+    requires { ⌜ TableAmounts (tableOf n (now x) (now «final_demand») (now exports) (now imports) (now «value_added») (now production)) ⌝ }
+    ensures { λ r. ⌜ report r ≡ verdict (balanceChecks (tableOf n (now (x .entry)) (now («final_demand» .entry)) (now (exports .entry)) (now (imports .entry)) (now («value_added» .entry)) (now (production .entry)))) 0 ⌝ }
+{
+    let columns = columns_balance(n, x, value_added, production);
+    if let Answer::Refused { number, place } = columns {
+        return Answer::Refused { number, place };
+    }
+    let rows = rows_balance(n, x, final_demand, exports, imports, production);
+    if let Answer::Refused { number, place } = rows {
+        return Answer::Refused { number, place };
+    }
+    imports_covered(n, x, final_demand, imports)
+}
+
+// Questions 1 to 3.
+fn check_inputs(
+    n: usize,
+    x: &[u64],
+    final_demand: &[u64],
+    exports: &[u64],
+    imports: &[u64],
+    value_added: &[u64],
+    production: &[u64],
+    matrices: &[usize],
+    lent: &[usize],
+) -> Answer
+    requires { ⌜ (all (eqb (n * n)) (now matrices) ≡ true → length (now x) ≡ n * n) ⌝ }
+    requires { ⌜ (all (eqb n) (now lent) ≡ true → (length (now «final_demand») ≡ n) × (length (now exports) ≡ n) × (length (now imports) ≡ n) × (length (now «value_added») ≡ n) × (length (now production) ≡ n)) ⌝ }
+    ensures { λ r. ⌜ report r ≡ verdict (size n ∷ lengths n (now (matrices .entry)) (now (lent .entry)) ∷ tableAmounts (tableOf n (now (x .entry)) (now («final_demand» .entry)) (now (exports .entry)) (now (imports .entry)) (now («value_added» .entry)) (now (production .entry)))) 0 ⌝ }
+{
+    let sizes = check_sizes(n, matrices, lent);
+    if let Answer::Refused { number, place } = sizes {
+        return Answer::Refused { number, place };
+    }
+    check_amounts(
+        n,
+        x,
+        final_demand,
+        exports,
+        imports,
+        value_added,
+        production,
+    )
+}
+
+// Questions 1 to 6. The outputs' lengths come as two lists, of the matrices a and d, and of the columns v, m and f.
+pub fn check_table(
+    n: usize,
+    x: &[u64],
+    final_demand: &[u64],
+    exports: &[u64],
+    imports: &[u64],
+    value_added: &[u64],
+    production: &[u64],
+    a_len: usize,
+    v_len: usize,
+    m_len: usize,
+    d_len: usize,
+    f_len: usize,
+) -> Answer
+    ensures { λ r. ⌜ report r ≡ verdict (tableChecks (tableOf n (now (x .entry)) (now («final_demand» .entry)) (now (exports .entry)) (now (imports .entry)) (now («value_added» .entry)) (now (production .entry))) («a_len» ∷ «d_len» ∷ []) («v_len» ∷ «m_len» ∷ «f_len» ∷ [])) 0 ⌝ }
+{
+    let matrices = [x.len(), a_len, d_len];
+    let lent = [
+        final_demand.len(),
+        exports.len(),
+        imports.len(),
+        value_added.len(),
+        production.len(),
+        v_len,
+        m_len,
+        f_len,
+    ];
+    let inputs = check_inputs(
+        n,
+        x,
+        final_demand,
+        exports,
+        imports,
+        value_added,
+        production,
+        &matrices,
+        &lent,
+    );
+    if let Answer::Refused { number, place } = inputs {
+        return Answer::Refused { number, place };
+    }
+    check_balances(
+        n,
+        x,
+        final_demand,
+        exports,
+        imports,
+        value_added,
+        production,
+    )
 }

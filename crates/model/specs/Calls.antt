@@ -7,7 +7,7 @@ use lib.ListN.{length}
 use Rattle.model.specs.Numbers.{tabulate, at, matrix, transposed}
 use Rattle.model.specs.Table.{Table, inputCoefficient, valueAddedCoefficient, importCoefficient, domesticCoefficient, domesticDemand}
 use Rattle.model.specs.Rounds.{settling, inverseRounds}
-use Rattle.model.specs.Checks.{Report, Check, verdict, single, size, lengths, tableAmounts, inducedAmounts, columnBalances, rowBalances, importsCovered, columnSums, bounded, demandLimit, riseLimit, productionTotal, settles, columnsSettle, demandLeft}
+use Rattle.model.specs.Checks.{Report, Check, verdict, single, size, lengths, tableAmounts, inducedAmounts, balanceChecks, columnSums, bounded, demandLimit, riseLimit, productionTotal, settles, columnsSettle, demandLeft}
 
 module _ (t : Table) where
   -- The results of sheets from a table: a, v, m, d and f
@@ -31,7 +31,7 @@ module _ (t : Table) where
   tableChecks matrices lent =
       let columns = length (t .finalDemand) ∷ length (t .exports) ∷ length (t .imports) ∷ length (t .valueAdded) ∷ length (t .production) ∷ lent in
       size (t .sectors) ∷ lengths (t .sectors) (length (t .flows) ∷ matrices) columns
-      ∷ tableAmounts t ++ (columnBalances t ∷ rowBalances t ∷ importsCovered t ∷ [])
+      ∷ tableAmounts t ++ balanceChecks t
 
   unfoldable pub coefficientsReport : List ℕ → List ℕ → Report
   coefficientsReport matrices lent =

@@ -114,6 +114,9 @@ module _ (t : Table) where
   abbrev pub importsCovered : Check
   importsCovered = each 6 (t .sectors) (λ i. leb (cell (t .imports) i) (need t i))
 
+  abbrev pub balanceChecks : List Check
+  balanceChecks = columnBalances ∷ rowBalances ∷ importsCovered ∷ []
+
 -- 7. every column sum of domestic coefficients is at most 950,000
 abbrev pub columnSums : ℕ → (ℕ → ℕ → ℕ) → Check
 columnSums n c = each 7 n (λ j. leb (sum n (transposed c j)) 950000)

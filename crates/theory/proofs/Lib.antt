@@ -8,5 +8,6 @@ pub mod Settling
 pub mod Accuracy
 pub mod Verdicts
 pub mod Answers
+pub mod Tables
 pub mod Promises
 pub mod Balances

@@ -1,2 +1,3 @@
 -- What contracts cite beside the definitions of `model`.
 pub mod Bounds
+pub mod Tables

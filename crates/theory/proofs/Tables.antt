@@ -1,0 +1,61 @@
+-- What the checks of a table say of it. Assumes nothing.
+use mathlib.Core.Path.{_≡_, sym, _∙_}
+use mathlib.Core.Bool.{true}
+use mathlib.Core.List.{List, [], _∷_, _++_}
+use Prim.Native.Nat.{ℕ, _+_, _*_, _≤_, _<_}
+use borrow.Author.Tests.{leb-true, eqb-true}
+use lib.Dec.{eqb}
+use lib.ListN.{length}
+use Rattle.model.specs.Numbers.{sum, all, cell, transposed}
+use Rattle.model.specs.Table.{Table, flow, need}
+use Rattle.model.specs.Checks.{size, lengths, amountLimit, tableAmounts, balanceChecks}
+use Rattle.model.specs.Calls.{tableChecks}
+use Rattle.theory.specs.Tables.{TableSizes, TableAmounts, Balanced}
+use Rattle.theory.proofs.Lists.{all-equal}
+use Rattle.theory.proofs.Verdicts.{Passes, AllPass, sized}
+
+abbrev pub tableColumns : Table → List ℕ → List ℕ
+tableColumns t lent =
+    length (t .finalDemand) ∷ length (t .exports) ∷ length (t .imports) ∷ length (t .valueAdded) ∷ length (t .production) ∷ lent
+
+-- the lengths of F, E, M, V and X, and of what follows them
+pub five-lengths : (t : Table) (lent : List ℕ) → all (eqb (t .sectors)) (tableColumns t lent) ≡ true
+    → (length (t .finalDemand) ≡ t .sectors) × (length (t .exports) ≡ t .sectors) × (length (t .imports) ≡ t .sectors)
+    × (length (t .valueAdded) ≡ t .sectors) × (length (t .production) ≡ t .sectors) × (all (eqb (t .sectors)) lent ≡ true)
+five-lengths t lent a =
+    let n = t .sectors in
+    let e = all-equal n (length (t .finalDemand)) (length (t .exports) ∷ length (t .imports) ∷ length (t .valueAdded) ∷ length (t .production) ∷ lent) a in
+    let f = all-equal n (length (t .exports)) (length (t .imports) ∷ length (t .valueAdded) ∷ length (t .production) ∷ lent) (e .1) in
+    let g = all-equal n (length (t .imports)) (length (t .valueAdded) ∷ length (t .production) ∷ lent) (f .1) in
+    let h = all-equal n (length (t .valueAdded)) (length (t .production) ∷ lent) (g .1) in
+    let k = all-equal n (length (t .production)) lent (h .1) in
+    (e .0, f .0, g .0, h .0, k .0, k .1)
+
+pub table-sizes : (t : Table) (matrices lent : List ℕ) → Passes (size (t .sectors))
+    → Passes (lengths (t .sectors) (length (t .flows) ∷ matrices) (tableColumns t lent))
+    → TableSizes t × (all (eqb (t .sectors * t .sectors)) matrices ≡ true) × (all (eqb (t .sectors)) lent ≡ true)
+table-sizes t matrices lent p q =
+    let n = t .sectors in
+    let s = sized n (length (t .flows) ∷ matrices) (tableColumns t lent) p q in
+    let x = all-equal (n * n) (length (t .flows)) matrices (s .squares) in
+    let l = five-lengths t lent (s .slices) in
+    (record { some = s .some; few = s .few; flows = x .0; demand = l .0; exports = l .1; imports = l .2; value = l .3; production = l .4 }, x .1, l .5)
+
+pub table-amounts : (t : Table) → TableSizes t → AllPass (tableAmounts t) → TableAmounts t
+table-amounts t s (x, (f, (e, (m, (v, (p, _)))))) =
+    record {
+      flows = λ k h. leb-true (cell (t .flows) k) amountLimit (x k (rw (s .flows) h));
+      demand = λ k h. leb-true (cell (t .finalDemand) k) amountLimit (f k (rw (s .demand) h));
+      exports = λ k h. leb-true (cell (t .exports) k) amountLimit (e k (rw (s .exports) h));
+      imports = λ k h. leb-true (cell (t .imports) k) amountLimit (m k (rw (s .imports) h));
+      value = λ k h. leb-true (cell (t .valueAdded) k) amountLimit (v k (rw (s .value) h));
+      production = λ k h. leb-true (cell (t .production) k) amountLimit (p k (rw (s .production) h));
+    }
+
+pub balanced : (t : Table) → AllPass (balanceChecks t) → Balanced t
+balanced t (c, (r, (m, _))) =
+    record {
+      columns = λ j h. eqb-true _ _ (c j h);
+      rows = λ i h. eqb-true _ _ (r i h);
+      covered = λ i h. leb-true _ _ (m i h);
+    }
