@@ -2,6 +2,8 @@
 -- promise (Promises).
 pub mod Sums
 pub mod Lists
+pub mod Places
+pub mod Shares
 pub mod Gauge
 pub mod Rounds
 pub mod Settling

@@ -47,6 +47,9 @@ tabulated n i f l e h p =
     agreed n n l (tabulate n f) e (length-tabulate n f) (le-refl n)
     (λ k lt. p k (lt-of-lt-of-le lt h) ∙ sym (cell-tabulate n f k lt))
 
+pub tabulate-cong : (n : ℕ) {f g : ℕ → ℕ} → ((k : ℕ) → k < n → f k ≡ g k) → tabulate n f ≡ tabulate n g
+tabulate-cong n {f} {g} p = tabulated n n g (tabulate n f) (length-tabulate n f) (le-refl n) (λ k h. cell-tabulate n f k h ∙ p k h)
+
 pub zeroed : (n i : ℕ) (l : List ℕ) → length l ≡ n → n ≤ i → Agree l i (λ _. 0) → l ≡ replicate n 0
 zeroed n i l e h p =
     agreed n n l (replicate n 0) e (length-replicate n 0) (le-refl n)

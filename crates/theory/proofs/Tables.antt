@@ -1,17 +1,22 @@
 -- What the checks of a table say of it. Assumes nothing.
-use mathlib.Core.Path.{_≡_, sym, _∙_}
+use mathlib.Core.Path.{_≡_, ap, ap₂, _∙_}
 use mathlib.Core.Bool.{true}
 use mathlib.Core.List.{List, [], _∷_, _++_}
-use Prim.Native.Nat.{ℕ, _+_, _*_, _≤_, _<_}
+use Prim.Native.Nat.{ℕ, _+_, _*_, _-_, _/_, _%_, _≤_, _<_}
+use native.Mathlib.Nat.{sub-le}
+use native.Mathlib.Omega.{arith}
 use borrow.Author.Tests.{leb-true, eqb-true}
 use lib.Dec.{eqb}
 use lib.ListN.{length}
-use Rattle.model.specs.Numbers.{sum, all, cell, transposed}
-use Rattle.model.specs.Table.{Table, flow, need}
-use Rattle.model.specs.Checks.{size, lengths, amountLimit, tableAmounts, balanceChecks}
-use Rattle.model.specs.Calls.{tableChecks}
+use Rattle.model.specs.Numbers.{one, all, tabulate, cell, at, matrix, transposed}
+use Rattle.model.specs.Table.{Table, flow, need, portion, inputCoefficient, valueAddedCoefficient, importCoefficient, domesticCoefficient, domesticDemand}
+use Rattle.model.specs.Checks.{size, lengths, amountLimit, demandLimit, tableAmounts, balanceChecks}
+use Rattle.model.specs.Calls.{inputCoefficients, importCoefficients, domesticCoefficients, domesticDemands}
 use Rattle.theory.specs.Tables.{TableSizes, TableAmounts, Balanced}
-use Rattle.theory.proofs.Lists.{all-equal}
+use Rattle.theory.proofs.Lists.{all-equal, cell-tabulate, tabulate-cong}
+use Rattle.theory.proofs.Sums.{sum-cell}
+use Rattle.theory.proofs.Places.{place-row, place-cell}
+use Rattle.theory.proofs.Shares.{share-le, portion-le}
 use Rattle.theory.proofs.Verdicts.{Passes, AllPass, sized}
 
 abbrev pub tableColumns : Table → List ℕ → List ℕ
@@ -59,3 +64,54 @@ balanced t (c, (r, (m, _))) =
       rows = λ i h. eqb-true _ _ (r i h);
       covered = λ i h. leb-true _ _ (m i h);
     }
+
+-- ---- an accepted table's coefficients are within one, and its demands within their limit
+module _ (t : Table) (a : TableAmounts t) (b : Balanced t) where
+  pub input-small : (i j : ℕ) → i < t .sectors → j < t .sectors → inputCoefficient t i j ≤ one
+  unfolding inputCoefficient
+  input-small i j h l =
+      share-le (flow t i j) (cell (t .production) j) (omega (arith, sum-cell (t .sectors) (transposed (flow t) j) i h, b .columns j l))
+
+  pub value-small : (j : ℕ) → j < t .sectors → valueAddedCoefficient t j ≤ one
+  unfolding valueAddedCoefficient
+  value-small j l = share-le (cell (t .valueAdded) j) (cell (t .production) j) (omega (arith, b .columns j l))
+
+  pub import-small : (i : ℕ) → i < t .sectors → importCoefficient t i ≤ one
+  unfolding importCoefficient
+  import-small i h = share-le (cell (t .imports) i) (need t i) (b .covered i h)
+
+  pub demand-small : (i : ℕ) → i < t .sectors → domesticDemand t i ≤ demandLimit
+  unfolding domesticDemand
+  demand-small i h =
+      omega (
+        arith,
+        portion-le (one - importCoefficient t i) (cell (t .finalDemand) i) (sub-le one (importCoefficient t i)),
+        a .demand i h,
+        a .exports i h,
+      )
+
+-- ---- the sheets, as they are worked out one from the other
+module _ (t : Table) where
+  pub input-cell : (k : ℕ) → k < t .sectors * t .sectors → cell (inputCoefficients t) k ≡ inputCoefficient t (k / t .sectors) (k % t .sectors)
+  unfolding inputCoefficients
+  input-cell k h = cell-tabulate (t .sectors * t .sectors) (λ k. inputCoefficient t (k / t .sectors) (k % t .sectors)) k h
+
+  pub import-cell : (i : ℕ) → i < t .sectors → cell (importCoefficients t) i ≡ importCoefficient t i
+  unfolding importCoefficients
+  import-cell i h = cell-tabulate (t .sectors) (importCoefficient t) i h
+
+  pub domestic-is : 1 ≤ t .sectors
+      → matrix (t .sectors) (λ i j. portion (one - cell (importCoefficients t) i) (at (t .sectors) (inputCoefficients t) i j)) ≡ domesticCoefficients t
+  unfolding domesticCoefficients domesticCoefficient
+  domestic-is some =
+      let n = t .sectors in
+      tabulate-cong (n * n)
+      (λ k h.
+      ap₂ portion (ap (λ (m : ℕ). one - m) (import-cell (k / n) (place-row n k some h)))
+      (place-cell n (inputCoefficients t) k ∙ input-cell k h))
+
+  pub demand-is : tabulate (t .sectors) (λ i. portion (one - cell (importCoefficients t) i) (cell (t .finalDemand) i) + cell (t .exports) i) ≡ domesticDemands t
+  unfolding domesticDemands domesticDemand
+  demand-is =
+      tabulate-cong (t .sectors)
+      (λ i h. ap (λ (m : ℕ). portion (one - m) (cell (t .finalDemand) i) + cell (t .exports) i) (import-cell i h))
