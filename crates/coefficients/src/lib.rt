@@ -1,4 +1,5 @@
 // From a table to its coefficients and its demand for domestic goods.
+use balances::check_table;
 use balances::need_of;
 use cells::fill_zero;
 use cells::portion_of;
@@ -8,10 +9,12 @@ use model::Answer;
 ghost use mathlib.Core.List.{List, [], _∷_, _++_};
 ghost use mathlib.Core.Path.{_≡_};
 ghost use Prim.Native.Nat.{ℕ, _+_, _*_, _-_, _<_, _≤_};
-ghost use lib.ListN.{length};
+ghost use lib.ListN.{length, replicate};
 ghost use Rattle.model.specs.Numbers.{at, cell, matrix, one, tabulate};
-ghost use Rattle.model.specs.Table.{absorption, portion, share};
-ghost use Rattle.model.specs.Checks.{amountLimit, output, report};
+ghost use Rattle.model.specs.Table.{absorption, portion, share, tableOf};
+ghost use Rattle.model.specs.Checks.{accepts, amountLimit, columnSums, output, report, verdict};
+ghost use Rattle.model.specs.Calls.{coefficientsReport, domesticCoefficients, domesticDemands, importCoefficients, inputCoefficients, valueAddedCoefficients};
+ghost use Rattle.theory.specs.Tables.{Balanced, SheetOutputs, TableAmounts, TableSizes};
 
 // Shares of the columns of x: each flow's part of the production of the sector that buys.
 fn fill_inputs(n: usize, x: &[u64], production: &[u64], a: &mut [u64])
@@ -74,4 +77,148 @@ fn fill_demand(n: usize, m: &[u64], final_demand: &[u64], exports: &[u64], f: &m
         let domestic = portion_of(1_000_000 - m[i], final_demand[i]);
         f[i] = domestic + exports[i];
     }
+}
+
+// Sets every cell of the five outputs to 0.
+fn clear(a: &mut [u64], v: &mut [u64], m: &mut [u64], d: &mut [u64], f: &mut [u64])
+    ensures { λ _. ⌜ now (a .exit) ≡ replicate (length (now (a .entry))) 0 ⌝ }
+    ensures { λ _. ⌜ now (v .exit) ≡ replicate (length (now (v .entry))) 0 ⌝ }
+    ensures { λ _. ⌜ now (m .exit) ≡ replicate (length (now (m .entry))) 0 ⌝ }
+    ensures { λ _. ⌜ now (d .exit) ≡ replicate (length (now (d .entry))) 0 ⌝ }
+    ensures { λ _. ⌜ now (f .exit) ≡ replicate (length (now (f .entry))) 0 ⌝ }
+{
+    fill_zero(a);
+    fill_zero(v);
+    fill_zero(m);
+    fill_zero(d);
+    fill_zero(f);
+}
+
+// The five sheets of a table that passes questions 1 to 6.
+fn fill_sheets(
+    n: usize,
+    x: &[u64],
+    final_demand: &[u64],
+    exports: &[u64],
+    imports: &[u64],
+    value_added: &[u64],
+    production: &[u64],
+    a: &mut [u64],
+    v: &mut [u64],
+    m: &mut [u64],
+    d: &mut [u64],
+    f: &mut [u64],
+)
+    requires { ⌜ TableSizes (tableOf n (now x) (now «final_demand») (now exports) (now imports) (now «value_added») (now production)) ⌝ }
+    requires { ⌜ TableAmounts (tableOf n (now x) (now «final_demand») (now exports) (now imports) (now «value_added») (now production)) ⌝ }
+    requires { ⌜ Balanced (tableOf n (now x) (now «final_demand») (now exports) (now imports) (now «value_added») (now production)) ⌝ }
+    requires { ⌜ (length (now a) ≡ n * n) × (length (now v) ≡ n) × (length (now m) ≡ n) × (length (now d) ≡ n * n) × (length (now f) ≡ n) ⌝ }
+    ensures { λ _. ⌜ SheetOutputs (tableOf n (now (x .entry)) (now («final_demand» .entry)) (now (exports .entry)) (now (imports .entry)) (now («value_added» .entry)) (now (production .entry))) (accepts 0) (length (now (a .entry))) (length (now (v .entry))) (length (now (m .entry))) (length (now (d .entry))) (length (now (f .entry))) (now (a .exit)) (now (v .exit)) (now (m .exit)) (now (d .exit)) (now (f .exit)) ⌝ }
+{
+    fill_inputs(n, x, production, a);
+    fill_shares(n, value_added, production, v);
+    fill_imports(n, x, final_demand, imports, m);
+    fill_domestic(n, a, m, d);
+    fill_demand(n, m, final_demand, exports, f);
+}
+
+// The same with question 7, of the domestic coefficients just worked out.
+fn check_sheets(
+    n: usize,
+    x: &[u64],
+    final_demand: &[u64],
+    exports: &[u64],
+    imports: &[u64],
+    value_added: &[u64],
+    production: &[u64],
+    a: &mut [u64],
+    v: &mut [u64],
+    m: &mut [u64],
+    d: &mut [u64],
+    f: &mut [u64],
+) -> Answer
+    requires { ⌜ TableSizes (tableOf n (now x) (now «final_demand») (now exports) (now imports) (now «value_added») (now production)) ⌝ }
+    requires { ⌜ TableAmounts (tableOf n (now x) (now «final_demand») (now exports) (now imports) (now «value_added») (now production)) ⌝ }
+    requires { ⌜ Balanced (tableOf n (now x) (now «final_demand») (now exports) (now imports) (now «value_added») (now production)) ⌝ }
+    requires { ⌜ (length (now a) ≡ n * n) × (length (now v) ≡ n) × (length (now m) ≡ n) × (length (now d) ≡ n * n) × (length (now f) ≡ n) ⌝ }
+    ensures { λ r. ⌜ report r ≡ verdict (columnSums n (at n (domesticCoefficients (tableOf n (now (x .entry)) (now («final_demand» .entry)) (now (exports .entry)) (now (imports .entry)) (now («value_added» .entry)) (now (production .entry))))) ∷ []) 0 ⌝ }
+    ensures { λ r. ⌜ SheetOutputs (tableOf n (now (x .entry)) (now («final_demand» .entry)) (now (exports .entry)) (now (imports .entry)) (now («value_added» .entry)) (now (production .entry))) (report r) (length (now (a .entry))) (length (now (v .entry))) (length (now (m .entry))) (length (now (d .entry))) (length (now (f .entry))) (now (a .exit)) (now (v .exit)) (now (m .exit)) (now (d .exit)) (now (f .exit)) ⌝ }
+{
+    fill_sheets(
+        n,
+        x,
+        final_demand,
+        exports,
+        imports,
+        value_added,
+        production,
+        a,
+        v,
+        m,
+        d,
+        f,
+    );
+    let columns = columns_within(n, d);
+    if let Answer::Refused { number, place } = columns {
+        clear(a, v, m, d, f);
+        return Answer::Refused { number, place };
+    }
+    Answer::Accepted
+}
+
+// The input coefficients a, value shares v, import shares m, domestic coefficients d and demand for domestic goods f of a table. No result is
+// left open. Columns are F, E, M, V and X of the paper, in its order.
+pub fn coefficients(
+    n: usize,
+    x: &[u64],
+    final_demand: &[u64],
+    exports: &[u64],
+    imports: &[u64],
+    value_added: &[u64],
+    production: &[u64],
+    a: &mut [u64],
+    v: &mut [u64],
+    m: &mut [u64],
+    d: &mut [u64],
+    f: &mut [u64],
+) -> Answer
+    ensures answer { λ r. ⌜ report r ≡ coefficientsReport (tableOf n (now (x .entry)) (now («final_demand» .entry)) (now (exports .entry)) (now (imports .entry)) (now («value_added» .entry)) (now (production .entry))) (length (now (a .entry)) ∷ length (now (d .entry)) ∷ []) (length (now (v .entry)) ∷ length (now (m .entry)) ∷ length (now (f .entry)) ∷ []) ⌝ }
+    ensures inputs { λ r. ⌜ now (a .exit) ≡ output (report r) (length (now (a .entry))) (inputCoefficients (tableOf n (now (x .entry)) (now («final_demand» .entry)) (now (exports .entry)) (now (imports .entry)) (now («value_added» .entry)) (now (production .entry)))) ⌝ }
+    ensures values { λ r. ⌜ now (v .exit) ≡ output (report r) (length (now (v .entry))) (valueAddedCoefficients (tableOf n (now (x .entry)) (now («final_demand» .entry)) (now (exports .entry)) (now (imports .entry)) (now («value_added» .entry)) (now (production .entry)))) ⌝ }
+    ensures shares { λ r. ⌜ now (m .exit) ≡ output (report r) (length (now (m .entry))) (importCoefficients (tableOf n (now (x .entry)) (now («final_demand» .entry)) (now (exports .entry)) (now (imports .entry)) (now («value_added» .entry)) (now (production .entry)))) ⌝ }
+    ensures domestic { λ r. ⌜ now (d .exit) ≡ output (report r) (length (now (d .entry))) (domesticCoefficients (tableOf n (now (x .entry)) (now («final_demand» .entry)) (now (exports .entry)) (now (imports .entry)) (now («value_added» .entry)) (now (production .entry)))) ⌝ }
+    ensures demands { λ r. ⌜ now (f .exit) ≡ output (report r) (length (now (f .entry))) (domesticDemands (tableOf n (now (x .entry)) (now («final_demand» .entry)) (now (exports .entry)) (now (imports .entry)) (now («value_added» .entry)) (now (production .entry)))) ⌝ }
+{
+    let checked = check_table(
+        n,
+        x,
+        final_demand,
+        exports,
+        imports,
+        value_added,
+        production,
+        a.len(),
+        v.len(),
+        m.len(),
+        d.len(),
+        f.len(),
+    );
+    if let Answer::Refused { number, place } = checked {
+        clear(a, v, m, d, f);
+        return Answer::Refused { number, place };
+    }
+    check_sheets(
+        n,
+        x,
+        final_demand,
+        exports,
+        imports,
+        value_added,
+        production,
+        a,
+        v,
+        m,
+        d,
+        f,
+    )
 }

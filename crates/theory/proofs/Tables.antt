@@ -11,11 +11,11 @@ use lib.ListN.{length}
 use Rattle.model.specs.Numbers.{one, all, tabulate, cell, at, matrix, transposed}
 use Rattle.model.specs.Table.{Table, flow, need, portion, inputCoefficient, valueAddedCoefficient, importCoefficient, domesticCoefficient, domesticDemand}
 use Rattle.model.specs.Checks.{size, lengths, amountLimit, demandLimit, tableAmounts, balanceChecks}
-use Rattle.model.specs.Calls.{inputCoefficients, importCoefficients, domesticCoefficients, domesticDemands}
+use Rattle.model.specs.Calls.{tableChecks, inputCoefficients, importCoefficients, domesticCoefficients, domesticDemands}
 use Rattle.theory.specs.Tables.{TableSizes, TableAmounts, Balanced}
 use Rattle.theory.proofs.Lists.{all-equal, cell-tabulate, tabulate-cong}
 use Rattle.theory.proofs.Sums.{sum-cell}
-use Rattle.theory.proofs.Places.{place-row, place-cell}
+use Rattle.theory.proofs.Places.{place-row, place-column, place-cell}
 use Rattle.theory.proofs.Shares.{share-le, portion-le}
 use Rattle.theory.proofs.Verdicts.{Passes, AllPass, sized}
 
@@ -63,6 +63,25 @@ balanced t (c, (r, (m, _))) =
       columns = λ j h. eqb-true _ _ (c j h);
       rows = λ i h. eqb-true _ _ (r i h);
       covered = λ i h. leb-true _ _ (m i h);
+    }
+
+-- a table that passes questions 1 to 6, and the slices that are lent beside it
+pub record Accepted (t : Table) (matrices lent : List ℕ) : Type 0 where
+  pub sizes : TableSizes t
+  pub small : TableAmounts t
+  pub balance : Balanced t
+  pub squares : all (eqb (t .sectors * t .sectors)) matrices ≡ true
+  pub slices : all (eqb (t .sectors)) lent ≡ true
+
+pub accepted-table : (t : Table) (matrices lent : List ℕ) → AllPass (tableChecks t matrices lent) → Accepted t matrices lent
+accepted-table t matrices lent (p, (q, (x, (f, (e, (m, (v, (y, rest)))))))) =
+    let z = table-sizes t matrices lent p q in
+    record {
+      sizes = z .0;
+      small = table-amounts t (z .0) (x, (f, (e, (m, (v, (y, tt))))));
+      balance = balanced t rest;
+      squares = z .1;
+      slices = z .2;
     }
 
 -- ---- an accepted table's coefficients are within one, and its demands within their limit
@@ -115,3 +134,12 @@ module _ (t : Table) where
   demand-is =
       tabulate-cong (t .sectors)
       (λ i h. ap (λ (m : ℕ). portion (one - m) (cell (t .finalDemand) i) + cell (t .exports) i) (import-cell i h))
+
+-- so the cells of a and of m are within one
+pub inputs-small : (t : Table) → 1 ≤ t .sectors → TableAmounts t → Balanced t → (k : ℕ) → k < t .sectors * t .sectors → cell (inputCoefficients t) k ≤ one
+inputs-small t some a b k h =
+    let n = t .sectors in
+    rw (input-cell t k h) (input-small t a b (k / n) (k % n) (place-row n k some h) (place-column n k some))
+
+pub imports-small : (t : Table) → TableAmounts t → Balanced t → (i : ℕ) → i < t .sectors → cell (importCoefficients t) i ≤ one
+imports-small t a b i h = rw (import-cell t i h) (import-small t a b i h)
