@@ -2,6 +2,7 @@
 -- promise (Promises).
 pub mod Sums
 pub mod Lists
+pub mod Matrices
 pub mod Gauge
 pub mod Rounds
 pub mod Settling

@@ -1,0 +1,2 @@
+-- Laws of rows, and of the Leontief inverse.
+pub mod Rows
