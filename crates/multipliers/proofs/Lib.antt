@@ -1,2 +1,4 @@
--- Laws of rows, and of the Leontief inverse.
+-- Laws of rows, of the Leontief inverse, and of its ratios.
 pub mod Rows
+pub mod Leontief
+pub mod Dispersion

@@ -1,53 +1,52 @@
+-- `multipliers::all_cells` meets its contract: total is the sum of the first j columns. Assumes nothing.
+use mathlib.Core.Path.{_≡_, sym, ap, subst, _∙_}
+use Prim.Native.Nat.{ℕ, _+_, _≤_, _-_}
+use native.Mathlib.Omega.{arith}
+use Rattle.model.specs.Numbers.{sum, at, oriented}
+use Rattle.multipliers.specs.Columns.{columnSum}
+use Rattle.theory.proofs.Sums.{sum-more, sum-room, sum-done}
+use Rattle.multipliers.proofs.Dispersion.{cells-small, cells-positive}
 use Rattle.multipliers.proofs.all_cells.Statement.{statement}
 use Rattle.multipliers.proofs.all_cells.Tie as tie
-use Rattle.multipliers.proofs.all_cells.Reads as reads
-use Rattle.multipliers.proofs.all_cells.Lts as lts
-use Rattle.multipliers.proofs.column_sum.Reads as column-sum-reads
 
 abbrev Inv-loop : tie.InvT-loop
-Inv-loop n sheet transposed total₀ j₀ total j = ?
+Inv-loop n sheet t total₀ j₀ total j = (j ≤ n) × (total ≡ sum j (columnSum n (oriented t (at n sheet))))
 
 abbrev μ-loop : tie.MeasureT-loop
-μ-loop n sheet transposed total₀ j₀ total j = ?
+μ-loop n sheet t total₀ j₀ total j = n - j
 
--- src/lib.rt:171:5
-loop-holds : tie.Need-loop-holds Inv-loop μ-loop
-loop-holds c = ?
+abbrev start : tie.At-loop Inv-loop μ-loop → tie.Start Inv-loop μ-loop
+start p = p .before .before
 
--- src/lib.rt:172:18
+-- the sums of the columns
+abbrev sums : tie.At-loop Inv-loop μ-loop → ℕ → ℕ
+sums p = let a = start p .args in columnSum (a .n) (oriented (a .transposed) (at (a .n) (a .sheet .now)))
+
+room : (q : tie.After-column-sum Inv-loop μ-loop) → q .before .before .loop .total + sums (q .before .before) (q .before .before .loop .j) ≤ 1280000000000
+room q =
+    let p = q .before .before in
+    omega (arith, sum-room (sums p) (p .loop .j) (start p .args .n) (p .loop .total) (p .loop .inv .1) (q .before .loop-test .taken), cells-small (start p .pre .1))
+
 column-sum-requires : tie.Need-column-sum-requires Inv-loop μ-loop
-column-sum-requires c κs = ?
+column-sum-requires c κs =
+    let s = start (c .before) in
+    (s .pre .0, s .pre .1, c .loop-test .taken)
 
--- src/lib.rt:172:9
-add-total : tie.Need-add-total Inv-loop μ-loop
-add-total c = ?
-
--- src/lib.rt:171:9
-add-j : tie.Need-add-j Inv-loop μ-loop
-add-j c = ?
-
--- src/lib.rt:171:5
-loop-less : tie.Need-loop-less Inv-loop μ-loop
-loop-less c = ?
-
--- src/lib.rt:171:5
 loop-again : tie.Need-loop-again Inv-loop μ-loop
-loop-again c = ?
+loop-again c =
+    let p = c .before .before in
+    let l = p .loop in
+    (omega arith, ap (λ (t : ℕ). l .total + t) (c .column-sum .ensures .0) ∙ sum-more (sums p) (l .j) (l .total) (l .inv .1))
 
--- src/lib.rt:166:1
 returns : tie.Need-returns Inv-loop μ-loop
-returns c = ?
+returns c =
+    let p = c .before in
+    let e = sum-done (sums p) (p .loop .j) (start p .args .n) (p .loop .total) (p .loop .inv .1) (p .loop .inv .0) (c .loop-test .left) in
+    (e, omega (arith, e, cells-positive (start p .pre .1)))
 
 pub all-cells-spec : {M : Type 1} → statement M
 all-cells-spec =
     tie.close
     (tie.spec
-    Inv-loop
-    μ-loop
-    loop-holds
-    column-sum-requires
-    add-total
-    add-j
-    loop-less
-    loop-again
-    returns)
+    Inv-loop μ-loop (λ c. omega arith) column-sum-requires (λ c. omega (arith, room c, c .column-sum .ensures .0)) (λ c. omega arith)
+    (λ c. omega arith) loop-again returns)

@@ -1,53 +1,52 @@
+-- `multipliers::column_sum` meets its contract: sum is the sum of the first i cells. Assumes nothing.
+use mathlib.Core.Path.{_≡_, ap, _∙_}
+use Prim.Native.Nat.{ℕ, _+_, _≤_, _-_}
+use native.Mathlib.Omega.{arith}
+use Rattle.model.specs.Numbers.{sum, at, transposed, oriented}
+use Rattle.theory.proofs.Sums.{sum-more, sum-room, sum-done}
+use Rattle.multipliers.proofs.Dispersion.{column-small}
 use Rattle.multipliers.proofs.column_sum.Statement.{statement}
 use Rattle.multipliers.proofs.column_sum.Tie as tie
-use Rattle.multipliers.proofs.column_sum.Reads as reads
-use Rattle.multipliers.proofs.column_sum.Lts as lts
-use Rattle.cells.proofs.cell_at.Reads as cell-at-reads
 
 abbrev Inv-loop : tie.InvT-loop
-Inv-loop n sheet transposed j sum₀ i₀ sum i = ?
+Inv-loop n sheet t j sum₀ i₀ s i = (i ≤ n) × (s ≡ sum i (transposed (oriented t (at n sheet)) j))
 
 abbrev μ-loop : tie.MeasureT-loop
-μ-loop n sheet transposed j sum₀ i₀ sum i = ?
+μ-loop n sheet t j sum₀ i₀ s i = n - i
 
--- src/lib.rt:159:5
-loop-holds : tie.Need-loop-holds Inv-loop μ-loop
-loop-holds c = ?
+abbrev start : tie.At-loop Inv-loop μ-loop → tie.Start Inv-loop μ-loop
+start p = p .before .before
 
--- src/lib.rt:160:16
+-- the cells of the column
+abbrev cells : tie.At-loop Inv-loop μ-loop → ℕ → ℕ
+cells p = let a = start p .args in transposed (oriented (a .transposed) (at (a .n) (a .sheet .now))) (a .j)
+
+room : (q : tie.After-cell-at Inv-loop μ-loop) → q .before .before .loop .sum + cells (q .before .before) (q .before .before .loop .i) ≤ 32000000000
+room q =
+    let p = q .before .before in
+    omega (arith, sum-room (cells p) (p .loop .i) (start p .args .n) (p .loop .sum) (p .loop .inv .1) (q .before .loop-test .taken), column-small (start p .pre .1) (start p .args .j) (start p .pre .2))
+
 cell-at-requires : tie.Need-cell-at-requires Inv-loop μ-loop
-cell-at-requires c κs = ?
+cell-at-requires c κs =
+    let s = start (c .before) in
+    (s .pre .0, c .loop-test .taken, s .pre .2)
 
--- src/lib.rt:160:9
-add-sum : tie.Need-add-sum Inv-loop μ-loop
-add-sum c = ?
-
--- src/lib.rt:159:9
-add-i : tie.Need-add-i Inv-loop μ-loop
-add-i c = ?
-
--- src/lib.rt:159:5
-loop-less : tie.Need-loop-less Inv-loop μ-loop
-loop-less c = ?
-
--- src/lib.rt:159:5
 loop-again : tie.Need-loop-again Inv-loop μ-loop
-loop-again c = ?
+loop-again c =
+    let p = c .before .before in
+    let l = p .loop in
+    (omega arith, ap (λ (t : ℕ). l .sum + t) (c .cell-at .ensures) ∙ sum-more (cells p) (l .i) (l .sum) (l .inv .1))
 
--- src/lib.rt:154:1
 returns : tie.Need-returns Inv-loop μ-loop
-returns c = ?
+returns c =
+    let p = c .before in
+    let s = start p in
+    let e = sum-done (cells p) (p .loop .i) (s .args .n) (p .loop .sum) (p .loop .inv .1) (p .loop .inv .0) (c .loop-test .left) in
+    (e, omega (arith, e, column-small (s .pre .1) (s .args .j) (s .pre .2)))
 
 pub column-sum-spec : {M : Type 1} → statement M
 column-sum-spec =
     tie.close
     (tie.spec
-    Inv-loop
-    μ-loop
-    loop-holds
-    cell-at-requires
-    add-sum
-    add-i
-    loop-less
-    loop-again
-    returns)
+    Inv-loop μ-loop (λ c. omega arith) cell-at-requires (λ c. omega (arith, room c, c .cell-at .ensures)) (λ c. omega arith)
+    (λ c. omega arith) loop-again returns)
