@@ -6,6 +6,7 @@ use Prim.Native.Nat.{ℕ, _+_, _*_, _≤_, _<_}
 use native.Mathlib.Nat.{le-refl, le-trans, mul-le-mul}
 use native.Mathlib.Omega.{arith}
 use borrow.Author.Tests.{eq-eqb}
+use lib.ListN.{length}
 use Rattle.model.specs.Numbers.{one, sum, cell, at, transposed, oriented}
 use Rattle.model.specs.Rounds.{settling, settled, unit, inverse}
 use Rattle.model.specs.Promises.{AcceptedMatrix}
@@ -14,7 +15,7 @@ use Rattle.theory.proofs.Sums.{sum-mono, sum-const, sum-cell}
 use Rattle.theory.proofs.Gauge.{total-gauge}
 use Rattle.theory.proofs.Rounds.{above-start}
 use Rattle.theory.proofs.Accuracy.{rounds-bounded}
-use Rattle.multipliers.proofs.Leontief.{unit-cell, unit-small, inverse-cell}
+use Rattle.multipliers.proofs.Leontief.{unit-cell, unit-small, inverse-cell, length-inverse}
 
 module _ {n : ℕ} {c : ℕ → ℕ → ℕ} (D : Dispersed n c) where
   pub column-small : (j : ℕ) → j < n → columnSum n c j ≤ 32000000000
@@ -33,10 +34,6 @@ module _ {n : ℕ} {c : ℕ → ℕ → ℕ} (D : Dispersed n c) where
 
   pub turned : Dispersed n (transposed c)
   turned = record { some = D .some; few = D .few; small = λ i j h l. D .small j i l h; positive = D .positive }
-
--- the numerator of a ratio fits
-pub numerator-small : {s n : ℕ} → s ≤ 32000000000 → n ≤ 40 → s * n ≤ 1280000000000
-numerator-small h l = mul-le-mul h l
 
 module _ {n : ℕ} {d : List ℕ} (A : AcceptedMatrix n d) (budget : ℕ) where
   -- no cell of the inverse is over 20 times the total of its start
@@ -72,6 +69,14 @@ module _ {n : ℕ} {d : List ℕ} (A : AcceptedMatrix n d) (budget : ℕ) where
       }
 
   -- in either direction
-  pub inverse-dispersed : (t : Bool) → Dispersed n (oriented t (at n (inverse n d budget)))
+  inverse-dispersed : (t : Bool) → Dispersed n (oriented t (at n (inverse n d budget)))
   inverse-dispersed true = turned dispersed
   inverse-dispersed false = dispersed
+
+  -- a sheet that has it is ready for its ratios
+  pub inverse-ready : {sheet : List ℕ} → sheet ≡ inverse n d budget → (t : Bool)
+      → (length sheet ≡ n * n) × Dispersed n (oriented t (at n sheet))
+  inverse-ready e t = (
+    ap length e ∙ length-inverse n d budget,
+    subst⁻¹ (λ (s : List ℕ). Dispersed n (oriented t (at n s))) e (inverse-dispersed t),
+  )

@@ -18,7 +18,7 @@ use Rattle.model.specs.Calls.{matrixChecks, inverseReport}
 use Rattle.model.specs.Promises.{AcceptedMatrix}
 use Rattle.model.specs.declared.Outcome.{Outcome}
 use Rattle.model.specs.declared.Outcome.the-variants.{Settled, Refused}
-use Rattle.theory.proofs.Lists.{All, all-none, all-more, cell-tabulate, tabulated}
+use Rattle.theory.proofs.Lists.{All, all-none, all-more, length-tabulate, cell-tabulate, tabulated}
 use Rattle.theory.proofs.Matrices.{matrix-cell, matrix-made}
 use Rattle.theory.proofs.Verdicts.{passed, failed-each, accepted-all, accepted-matrix}
 
@@ -72,6 +72,10 @@ module _ (n : ℕ) (d : List ℕ) (budget : ℕ) where
   pub inverse-cell : (i j : ℕ) → i < n → j < n → at n (inverse n d budget) i j ≡ cell (column j) i
   unfolding inverse
   inverse-cell i j h l = matrix-cell n (λ i j. cell (column j) i) i j h l
+
+  pub length-inverse : length (inverse n d budget) ≡ n * n
+  unfolding inverse
+  length-inverse = length-tabulate (n * n) _
 
   -- the columns before j stand in the sheet, and `most` is the largest of their counts
   pub record Filled (j : ℕ) (sheet : List ℕ) (most : ℕ) : Type 0 where

@@ -9,7 +9,7 @@ use Rattle.multipliers.proofs.check_inverse.Tie as tie
 
 check-matrix-requires : tie.Need-check-matrix-requires
 check-matrix-requires c κs e =
-    let a = c .before .before .before .before .args in
+    let a = c .before .before .before .args in
     all-equal (a .n * a .n) (length (a .d .now)) (a .sheet-len ∷ []) e .0
 
 pub check-inverse-spec : {M : Type 1} → statement M

@@ -1,84 +1,58 @@
+-- `multipliers::fill_dispersion` meets its contract: the cells below j are the ratios. Assumes nothing.
+use mathlib.Core.Path.{_≡_, ap₂}
+use Prim.Native.Nat.{ℕ, _*_, _/_, _≤_, _-_}
+use native.Mathlib.Nat.{mul-le-mul}
+use native.Mathlib.Omega.{arith}
+use lib.ListN.{length, length-set}
+use Rattle.model.specs.Numbers.{one, at, oriented}
+use Rattle.model.specs.Rounds.{dispersion}
+use Rattle.multipliers.specs.Columns.{columnSum, allCells}
+use Rattle.theory.proofs.Lists.{Agree, agree-none, agree-set, tabulated}
 use Rattle.multipliers.proofs.fill_dispersion.Statement.{statement}
 use Rattle.multipliers.proofs.fill_dispersion.Tie as tie
-use Rattle.multipliers.proofs.fill_dispersion.Reads as reads
-use Rattle.multipliers.proofs.fill_dispersion.Lts as lts
-use Rattle.multipliers.proofs.all_cells.Reads as all-cells-reads
-use Rattle.multipliers.proofs.column_sum.Reads as column-sum-reads
 
 abbrev Inv-loop : tie.InvT-loop
-Inv-loop n sheet transposed out₀ total j₀ out j = ?
+Inv-loop n sheet t out₀ total j₀ out j =
+    let c = oriented t (at n sheet) in
+    (j ≤ n) × (length out ≡ n) × Agree out j (λ k. columnSum n c k * n * one / allCells n c)
 
 abbrev μ-loop : tie.MeasureT-loop
-μ-loop n sheet transposed out₀ total j₀ out j = ?
+μ-loop n sheet t out₀ total j₀ out j = n - j
 
--- src/lib.rt:182:9
-all-cells-requires : tie.Need-all-cells-requires Inv-loop μ-loop
-all-cells-requires c κs = ?
+abbrev entry : tie.At-loop Inv-loop μ-loop → tie.Start Inv-loop μ-loop
+entry p = p .before .before .before .before
 
--- src/lib.rt:183:5
+-- the numerator of a ratio fits
+fits : (q : tie.After-column-sum Inv-loop μ-loop) → q .column-sum .result * entry (q .before .before) .args .n ≤ 1280000000000
+fits q = mul-le-mul (q .column-sum .ensures .1) (entry (q .before .before) .pre .1 .few)
+
 loop-holds : tie.Need-loop-holds Inv-loop μ-loop
-loop-holds c = ?
+loop-holds c =
+    let s = c .before .before .before in
+    (omega arith, s .pre .2, agree-none (s .args .out .now) _)
 
--- src/lib.rt:184:18
 column-sum-requires : tie.Need-column-sum-requires Inv-loop μ-loop
-column-sum-requires c κs = ?
+column-sum-requires c κs =
+    let s = entry (c .before) in
+    (s .pre .0, s .pre .1, c .loop-test .taken)
 
--- src/lib.rt:184:18
-mul-out : tie.Need-mul-out Inv-loop μ-loop
-mul-out c = ?
-
--- src/lib.rt:184:18
-mul-out-2 : tie.Need-mul-out-2 Inv-loop μ-loop
-mul-out-2 c = ?
-
--- src/lib.rt:184:18
-div-out : tie.Need-div-out Inv-loop μ-loop
-div-out c = ?
-
--- src/lib.rt:184:9
-mul-out-3 : tie.Need-mul-out-3 Inv-loop μ-loop
-mul-out-3 c = ?
-
--- src/lib.rt:184:9
-slice-write-out : tie.Need-slice-write-out Inv-loop μ-loop
-slice-write-out c = ?
-
--- src/lib.rt:183:9
-add-j : tie.Need-add-j Inv-loop μ-loop
-add-j c = ?
-
--- src/lib.rt:183:5
-loop-less : tie.Need-loop-less Inv-loop μ-loop
-loop-less c = ?
-
--- src/lib.rt:183:5
 loop-again : tie.Need-loop-again Inv-loop μ-loop
-loop-again c = ?
+loop-again c =
+    let p = c .before .before in
+    let l = p .loop in
+    let ratio = ap₂ (λ (s t : ℕ). s * entry p .args .n * one / t) (c .column-sum .ensures .0) (p .before .all-cells .ensures .0) in
+    (omega arith, simp length-set (l .inv .1), agree-set (l .out) (l .j) _ _ (omega arith) ratio (l .inv .2))
 
--- src/lib.rt:178:1
-same-length : tie.Need-same-length Inv-loop μ-loop
-same-length c = ?
-
--- src/lib.rt:178:1
 returns : tie.Need-returns Inv-loop μ-loop
-returns c = ?
+unfolding dispersion
+returns c =
+    let l = c .before .loop in
+    tabulated _ (l .j) _ (l .out) (l .inv .1) (c .loop-test .left) (l .inv .2)
 
 pub fill-dispersion-spec : {M : Type 1} → statement M
 fill-dispersion-spec =
     tie.close
     (tie.spec
-    Inv-loop
-    μ-loop
-    all-cells-requires
-    loop-holds
-    column-sum-requires
-    mul-out
-    mul-out-2
-    div-out
-    mul-out-3
-    slice-write-out
-    add-j
-    loop-less
-    loop-again
-    same-length
-    returns)
+    Inv-loop μ-loop (λ c κs. let p = c .before .before .pre in (p .0, p .1)) loop-holds column-sum-requires
+    (λ c. omega (arith, fits c)) (λ c. omega (arith, fits c)) (λ c. omega (arith, c .before .before .before .all-cells .ensures .1))
+    (λ c. omega arith) (λ c. omega arith) (λ c. omega arith) (λ c. omega arith) loop-again (λ c. omega arith) returns)
