@@ -2,14 +2,14 @@
 use mathlib.Core.Bool.{Bool, true, false, cond, false≢true}
 use mathlib.Core.List.{List, [], _∷_, _++_}
 use mathlib.Core.Path.{_≡_, refl, sym, ap, subst⁻¹, _∙_}
-use Prim.Native.Nat.{ℕ, suc, _+_, _*_, _≤_, _<_, zero-le, max}
+use Prim.Native.Nat.{ℕ, _+_, _*_, _≤_, _<_, zero-le, max}
 use native.Mathlib.Nat.{le-refl, le-antisymm, lt-of-lt-of-le}
 use native.Mathlib.Numerals.{add-one}
 use native.Mathlib.Omega.{arith}
 use borrow.Author.Count.{below-more, below-none}
 use borrow.Author.Tests.{eqb-true, eqb-false}
 use lib.Dec.{eqb}
-use lib.ListN.{length, set, replicate, take, length-set, length-replicate, getD-replicate}
+use lib.ListN.{length, set, replicate, take, length-set, getD-replicate}
 use lib.Seq.{length-take-le, getD-take, getD-set-same, getD-set-other}
 use Rattle.model.specs.Numbers.{one, largest, all, cell, at}
 use Rattle.model.specs.Rounds.{settling, settled, unit, inverse, inverseRounds}

@@ -200,14 +200,7 @@ pub fn inverse(
     ensures powers { λ r. ⌜ now (power .exit) ≡ output (reportRounds r) (length (now (power .entry))) (dispersion n (at n (inverse n (now (d .entry)) budget))) ⌝ }
     ensures sensitivities { λ r. ⌜ now (sensitivity .exit) ≡ output (reportRounds r) (length (now (sensitivity .entry))) (dispersion n (transposed (at n (inverse n (now (d .entry)) budget)))) ⌝ }
 {
-    let outcome = fill_inverse(
-        n,
-        d,
-        budget,
-        power.len(),
-        sensitivity.len(),
-        sheet,
-    );
+    let outcome = fill_inverse(n, d, budget, power.len(), sensitivity.len(), sheet);
     if let Outcome::Refused { number, place } = outcome {
         fill_zero(power);
         fill_zero(sensitivity);

@@ -1,5 +1,5 @@
 -- `multipliers::all_cells` meets its contract: total is the sum of the first j columns. Assumes nothing.
-use mathlib.Core.Path.{_≡_, sym, ap, subst, _∙_}
+use mathlib.Core.Path.{_≡_, ap, _∙_}
 use Prim.Native.Nat.{ℕ, _+_, _≤_, _-_}
 use native.Mathlib.Omega.{arith}
 use Rattle.model.specs.Numbers.{sum, at, oriented}

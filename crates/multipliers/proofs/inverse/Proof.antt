@@ -1,87 +1,100 @@
+-- `multipliers::inverse` meets its contract, by cases on what its checks and columns answer. Assumes nothing.
+use mathlib.Core.Bool.{Bool, true, false}
+use mathlib.Core.List.{List, [], _∷_}
+use mathlib.Core.Path.{_≡_, sym, ap, _∙_}
+use Prim.Native.Nat.{ℕ, _*_}
 use borrow.Author.Needs.{needs}
+use lib.ListN.{length}
+use Rattle.model.specs.Numbers.{at, oriented, transposed}
+use Rattle.model.specs.Rounds.{dispersion, inverse}
+use Rattle.model.specs.Checks.{Report, reportRounds, output}
+use Rattle.model.specs.declared.Outcome.{Outcome}
+use Rattle.multipliers.specs.Columns.{Dispersed}
+use Rattle.theory.proofs.Lists.{all-equal}
+use Rattle.theory.proofs.Verdicts.{output-given}
+use Rattle.multipliers.proofs.Leontief.{accepted-inverse}
+use Rattle.multipliers.proofs.Dispersion.{inverse-ready}
 use Rattle.multipliers.proofs.inverse.Statement.{statement}
 use Rattle.multipliers.proofs.inverse.Tie as tie
-use Rattle.multipliers.proofs.inverse.Reads as reads
-use Rattle.multipliers.proofs.inverse.Lts as lts
-use Rattle.cells.proofs.fill_zero.Reads as fill-zero-reads
-use Rattle.multipliers.proofs.fill_dispersion.Reads as fill-dispersion-reads
-use Rattle.multipliers.proofs.fill_inverse.Reads as fill-inverse-reads
 
--- src/lib.rt:203:9
-fill-inverse-requires : tie.Need-fill-inverse-requires
-fill-inverse-requires c κs = search needs
+abbrev entry : tie.After-fill-inverse → tie.Start
+entry q = q .before .before .before .before .before .before
 
--- src/lib.rt:211:31
-enum-known-outcome : tie.Need-enum-known-outcome
-enum-known-outcome c = search needs
+abbrev sheet : tie.After-fill-inverse → List ℕ
+sheet q = q .fill-inverse .last .1 .1 .1 .1 .1 .0
 
--- src/lib.rt:212:9
-fill-zero-requires : tie.Need-fill-zero-requires
-fill-zero-requires c κs = search needs
+-- where every column has settled: the sheet is the inverse, and the slices have their lengths
+abbrev filled : tie.After-enum-told → tie.After-fill-inverse
+filled p = p .before .before .before .before
 
--- src/lib.rt:213:9
-fill-zero-requires-2 : tie.Need-fill-zero-requires-2
-fill-zero-requires-2 c κs = search needs
+accepted : (p : tie.After-enum-told) → reportRounds (filled p .fill-inverse .result) .accepted ≡ true
+accepted p = ap (λ (o : Outcome). reportRounds o .accepted) (p .enum-told .given .1)
 
--- src/lib.rt:214:9
-same-length : tie.Need-same-length
-same-length c = search needs
+made : (p : tie.After-enum-told) → let a = entry (filled p) .args in sheet (filled p) ≡ inverse (a .n) (a .d .now) (a .budget)
+made p =
+    let q = filled p in
+    let a = entry q .args in
+    q .fill-inverse .ensures .1
+    ∙ output-given (reportRounds (q .fill-inverse .result)) (length (a .sheet .now)) (inverse (a .n) (a .d .now) (a .budget)) (accepted p)
 
--- src/lib.rt:214:9
-same-length-2 : tie.Need-same-length-2
-same-length-2 c = search needs
+ready : (p : tie.After-enum-told) →
+    let a = entry (filled p) .args in
+    ((t : Bool) → (length (sheet (filled p)) ≡ a .n * a .n) × Dispersed (a .n) (oriented t (at (a .n) (sheet (filled p)))))
+    × (length (a .power .now) ≡ a .n) × (length (a .sensitivity .now) ≡ a .n)
+ready p =
+    let q = filled p in
+    let a = entry q .args in
+    let lp = length (a .power .now) in
+    let ls = length (a .sensitivity .now) in
+    let r = accepted-inverse (a .n) (a .d .now) (a .budget) (length (a .sheet .now) ∷ []) (lp ∷ ls ∷ [])
+    (ap (λ (r : Report). r .accepted) (sym (q .fill-inverse .ensures .0)) ∙ accepted p) in
+    let l = all-equal (a .n) lp (ls ∷ []) (r .1) in
+    (inverse-ready (r .0) (a .budget) (made p), l .0, all-equal (a .n) ls [] (l .1) .0)
 
--- src/lib.rt:214:9
-same-length-3 : tie.Need-same-length-3
-same-length-3 c = search needs
-
--- src/lib.rt:214:9
-returns : tie.Need-returns
-returns c = ?
-
-enum-told : tie.Need-enum-told
-enum-told c = search needs
-
--- src/lib.rt:216:5
 fill-dispersion-requires : tie.Need-fill-dispersion-requires
-fill-dispersion-requires c κs = ?
+fill-dispersion-requires c κs =
+    let r = ready (c .before .before) in
+    (r .0 false .0, r .0 false .1, r .1)
 
--- src/lib.rt:217:5
 fill-dispersion-requires-2 : tie.Need-fill-dispersion-requires-2
-fill-dispersion-requires-2 c κs = ?
+fill-dispersion-requires-2 c κs =
+    let r = ready (c .before .before .before .before .before .before .before) in
+    (r .0 true .0, r .0 true .1, r .2)
 
--- src/lib.rt:190:1
-same-length-4 : tie.Need-same-length-4
-same-length-4 c = search needs
+returns : tie.Need-returns
+returns c =
+    let k = c .before .before .before .before .before .before .before .before .before in
+    let q = k .before .before .before .before in
+    let a = entry q .args in
+    let e = k .outcome .given .1 in (
+      sym (ap reportRounds e) ∙ q .fill-inverse .ensures .0,
+      (
+        q .fill-inverse .ensures .1
+            ∙ ap (λ (o : Outcome). output (reportRounds o) (length (a .sheet .now)) (inverse (a .n) (a .d .now) (a .budget))) e,
+        (c .before .before .before .before .before .before .fill-zero .ensures, c .before .before .fill-zero2 .ensures),
+      ),
+    )
 
--- src/lib.rt:190:1
-same-length-5 : tie.Need-same-length-5
-same-length-5 c = search needs
-
--- src/lib.rt:190:1
-same-length-6 : tie.Need-same-length-6
-same-length-6 c = search needs
-
--- src/lib.rt:190:1
 returns-2 : tie.Need-returns-2
-returns-2 c = ?
+returns-2 c =
+    let r = c .before .before .before .before .before .before .before in
+    let p = r .before .before .before in
+    let q = filled p in
+    let n = entry q .args .n in (
+      q .fill-inverse .ensures .0,
+      (
+        q .fill-inverse .ensures .1,
+        (
+          rw (accepted p) (r .fill-dispersion .ensures ∙ ap (λ (s : List ℕ). dispersion n (at n s)) (made p)),
+          rw (accepted p) (c .before .before .fill-dispersion2 .ensures ∙ ap (λ (s : List ℕ). dispersion n (transposed (at n s))) (made p)),
+        ),
+      ),
+    )
 
 pub inverse-spec : {M : Type 1} → statement M
 inverse-spec =
     tie.close
     (tie.spec
-    fill-inverse-requires
-    enum-known-outcome
-    fill-zero-requires
-    fill-zero-requires-2
-    same-length
-    same-length-2
-    same-length-3
-    returns
-    enum-told
-    fill-dispersion-requires
-    fill-dispersion-requires-2
-    same-length-4
-    same-length-5
-    same-length-6
-    returns-2)
+    (λ c κs. search needs) (λ c. search needs) (λ c κs. search needs) (λ c κs. search needs) (λ c. search needs)
+    (λ c. search needs) (λ c. search needs) returns (λ c. search needs) fill-dispersion-requires
+    fill-dispersion-requires-2 (λ c. search needs) (λ c. search needs) (λ c. search needs) returns-2)
