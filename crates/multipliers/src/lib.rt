@@ -150,7 +150,7 @@ fn fill_inverse(
     }
 }
 
-// The sum of column j, or of row j of the transposed sheet.
+// The sum of column j of a sheet; transposed, of its row j.
 fn column_sum(n: usize, sheet: &[u64], transposed: bool, j: usize) -> u64
     requires { ⌜ (length (now sheet) ≡ n * n) × Dispersed n (oriented transposed (at n (now sheet))) × (j < n) ⌝ }
     ensures { λ r. ⌜ (r ≡ columnSum n (oriented transposed (at n (now (sheet .entry)))) j) × (r ≤ 32000000000) ⌝ }
@@ -162,7 +162,7 @@ fn column_sum(n: usize, sheet: &[u64], transposed: bool, j: usize) -> u64
     sum
 }
 
-// The sum of all cells.
+// The sum of all cells, column by column or row by row.
 fn all_cells(n: usize, sheet: &[u64], transposed: bool) -> u64
     requires { ⌜ (length (now sheet) ≡ n * n) × Dispersed n (oriented transposed (at n (now sheet))) ⌝ }
     ensures { λ r. ⌜ (r ≡ allCells n (oriented transposed (at n (now (sheet .entry))))) × (1 ≤ r) ⌝ }
@@ -174,7 +174,7 @@ fn all_cells(n: usize, sheet: &[u64], transposed: bool) -> u64
     total
 }
 
-// Each column sum, or row sum of the transposed sheet, against all cells: the power, or the sensitivity, of dispersion.
+// Each column sum against all cells, which is the power of dispersion; transposed, each row sum, which is the sensitivity.
 fn fill_dispersion(n: usize, sheet: &[u64], transposed: bool, out: &mut [u64])
     requires { ⌜ (length (now sheet) ≡ n * n) × Dispersed n (oriented transposed (at n (now sheet))) × (length (now out) ≡ n) ⌝ }
     ensures { λ _. ⌜ now (out .exit) ≡ dispersion n (oriented transposed (at n (now (sheet .entry)))) ⌝ }

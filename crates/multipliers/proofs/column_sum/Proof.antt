@@ -29,7 +29,7 @@ room q =
 cell-at-requires : tie.Need-cell-at-requires Inv-loop μ-loop
 cell-at-requires c κs =
     let s = start (c .before) in
-    (s .pre .0, c .loop-test .taken, s .pre .2)
+    (s .pre .0, omega (arith, c .loop-test .taken, s .pre .2), omega (arith, c .loop-test .taken, s .pre .2))
 
 loop-again : tie.Need-loop-again Inv-loop μ-loop
 loop-again c =

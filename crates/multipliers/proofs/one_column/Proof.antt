@@ -24,9 +24,9 @@ part s = length-take-le (s .args .n) zeros (s .pre .0 .few)
 demand : (s : tie.Start) → take (s .args .n) (set zeros (s .args .j) one) ≡ unit (s .args .n) (s .args .j)
 demand s = unit-made (s .args .n) (s .args .j) (s .pre .0 .few) (s .pre .2)
 
-demand-part : (s : tie.Start) → length (take (s .args .n) (set zeros (s .args .j) one)) ≡ s .args .n
-demand-part s =
-    length-take-le (s .args .n) (set zeros (s .args .j) one) (subst⁻¹ (λ (k : ℕ). s .args .n ≤ k) (length-set zeros (s .args .j) one) (s .pre .0 .few))
+demand-part : (s : tie.Start) (v : ℕ) → length (take (s .args .n) (set zeros (s .args .j) v)) ≡ s .args .n
+demand-part s v =
+    length-take-le (s .args .n) (set zeros (s .args .j) v) (subst⁻¹ (λ (k : ℕ). s .args .n ≤ k) (length-set zeros (s .args .j) v) (s .pre .0 .few))
 
 abbrev entry : tie.After-settle → tie.Start
 entry q = q .before .before .before .before .before .before
@@ -37,7 +37,7 @@ amounts-length q = q .settle .kept .1 .1 .1 .1 .1 .0 ∙ part (entry q)
 settle-requires : tie.Need-settle-requires
 settle-requires c κs =
     let s = c .before .before .before .before .before in (
-      (s .pre .0, demand-part s, part s, part s),
+      (s .pre .0, demand-part s _, part s, part s),
       subst⁻¹ (λ (u : List ℕ). (i : ℕ) → i < s .args .n → cell u i ≤ demandLimit) (demand s)
           (λ i h. le-trans (unit-small (s .args .n) (s .args .j) i h) (omega arith)),
     )
@@ -79,7 +79,7 @@ pub one-column-spec : {M : Type 1} → statement M
 one-column-spec =
     tie.close
     (tie.spec
-    (λ c. search needs) (λ c. search needs) (λ c. search needs) (λ c. sym (demand-part (c .before .before .before)))
+    (λ c. search needs) (λ c. search needs) (λ c. search needs) (λ c. sym (demand-part (c .before .before .before) _))
     (λ c. search needs) (λ c. sym (part (c .before .before .before .before))) (λ c. search needs)
     (λ c. sym (part (c .before .before .before .before .before))) settle-requires amounts-part
     (λ c. let q = c .before .before .before in sym (ap length (stored q) ∙ amounts-length q)) put-column-requires

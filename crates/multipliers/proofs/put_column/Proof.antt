@@ -20,11 +20,16 @@ Inv-loop n j column sheet₀ i₀ sheet i =
 abbrev μ-loop : tie.MeasureT-loop
 μ-loop n j column sheet₀ i₀ sheet i = n - i
 
+-- a cell on either side of the diagonal lies in the sheet
 in-sheet :
     (c : tie.In-loop Inv-loop μ-loop) →
     let a = c .before .before .args in
-    c .before .loop .i * a .n + a .j < a .n * a .n
-in-sheet c = cell-in _ _ _ (c .loop-test .taken) (c .before .before .pre .2)
+    let i = c .before .loop .i in
+    (i * a .n + a .j < a .n * a .n) × (a .j * a .n + i < a .n * a .n)
+in-sheet c =
+    let h = c .loop-test .taken in
+    let l = c .before .before .pre .2 in
+    (cell-in _ _ _ h l, cell-in _ _ _ l h)
 
 loop-again : tie.Need-loop-again Inv-loop μ-loop
 loop-again c =
