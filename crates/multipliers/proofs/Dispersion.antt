@@ -74,9 +74,9 @@ module _ {n : ℕ} {d : List ℕ} (A : AcceptedMatrix n d) (budget : ℕ) where
   inverse-dispersed false = dispersed
 
   -- a sheet that has it is ready for its ratios
-  pub inverse-ready : {sheet : List ℕ} → sheet ≡ inverse n d budget → (t : Bool)
-      → (length sheet ≡ n * n) × Dispersed n (oriented t (at n sheet))
-  inverse-ready e t = (
+  pub inverse-ready : {sheet : List ℕ} → sheet ≡ inverse n d budget
+      → (length sheet ≡ n * n) × ((t : Bool) → Dispersed n (oriented t (at n sheet)))
+  inverse-ready e = (
     ap length e ∙ length-inverse n d budget,
-    subst⁻¹ (λ (s : List ℕ). Dispersed n (oriented t (at n s))) e (inverse-dispersed t),
+    λ t. subst⁻¹ (λ (s : List ℕ). Dispersed n (oriented t (at n s))) e (inverse-dispersed t),
   )

@@ -37,9 +37,11 @@ made p =
     q .fill-inverse .ensures .1
     ∙ output-given (reportRounds (q .fill-inverse .result)) (length (a .sheet .now)) (inverse (a .n) (a .d .now) (a .budget)) (accepted p)
 
-ready : (p : tie.After-enum-told) →
+ready :
+    (p : tie.After-enum-told) →
     let a = entry (filled p) .args in
-    ((t : Bool) → (length (sheet (filled p)) ≡ a .n * a .n) × Dispersed (a .n) (oriented t (at (a .n) (sheet (filled p)))))
+    let s = sheet (filled p) in
+    ((length s ≡ a .n * a .n) × ((t : Bool) → Dispersed (a .n) (oriented t (at (a .n) s))))
     × (length (a .power .now) ≡ a .n) × (length (a .sensitivity .now) ≡ a .n)
 ready p =
     let q = filled p in
@@ -54,12 +56,12 @@ ready p =
 fill-dispersion-requires : tie.Need-fill-dispersion-requires
 fill-dispersion-requires c κs =
     let r = ready (c .before .before) in
-    (r .0 false .0, r .0 false .1, r .1)
+    (r .0 .0, search (r .0 .1 false, r .0 .1 true), r .1)
 
 fill-dispersion-requires-2 : tie.Need-fill-dispersion-requires-2
 fill-dispersion-requires-2 c κs =
     let r = ready (c .before .before .before .before .before .before .before) in
-    (r .0 true .0, r .0 true .1, r .2)
+    (r .0 .0, search (r .0 .1 false, r .0 .1 true), r .2)
 
 returns : tie.Need-returns
 returns c =
