@@ -10,7 +10,7 @@ use lib.ListN.{length}
 use Rattle.model.specs.Numbers.{one, sum, cell, at, transposed, oriented}
 use Rattle.model.specs.Rounds.{settling, settled, unit, inverse}
 use Rattle.model.specs.Promises.{AcceptedMatrix}
-use Rattle.multipliers.specs.Columns.{columnSum, allCells, Dispersed}
+use Rattle.multipliers.specs.Columns.{columnSum, allCells, cellLimit, columnLimit, Dispersed}
 use Rattle.theory.proofs.Sums.{sum-mono, sum-const, sum-cell}
 use Rattle.theory.proofs.Gauge.{total-gauge}
 use Rattle.theory.proofs.Rounds.{above-start}
@@ -18,15 +18,15 @@ use Rattle.theory.proofs.Accuracy.{rounds-bounded}
 use Rattle.multipliers.proofs.Leontief.{unit-cell, unit-small, inverse-cell, length-inverse}
 
 module _ {n : ℕ} {c : ℕ → ℕ → ℕ} (D : Dispersed n c) where
-  pub column-small : (j : ℕ) → j < n → columnSum n c j ≤ 32000000000
+  pub column-small : (j : ℕ) → j < n → columnSum n c j ≤ columnLimit
   column-small j h =
       let few = D .few in
-      omega (arith, sum-mono n {f = transposed c j} {g = λ i. 800000000} (λ i l. D .small i j l h), sum-const n 800000000)
+      omega (arith, sum-mono n {f = transposed c j} {g = λ i. cellLimit} (λ i l. D .small i j l h), sum-const n cellLimit)
 
-  pub cells-small : allCells n c ≤ 1280000000000
+  pub cells-small : allCells n c ≤ 40 * columnLimit
   cells-small =
       let few = D .few in
-      omega (arith, sum-mono n {f = columnSum n c} {g = λ j. 32000000000} column-small, sum-const n 32000000000)
+      omega (arith, sum-mono n {f = columnSum n c} {g = λ j. columnLimit} column-small, sum-const n columnLimit)
 
   pub cells-positive : 1 ≤ allCells n c
   cells-positive =
@@ -37,7 +37,7 @@ module _ {n : ℕ} {c : ℕ → ℕ → ℕ} (D : Dispersed n c) where
 
 module _ {n : ℕ} {d : List ℕ} (A : AcceptedMatrix n d) (budget : ℕ) where
   -- no cell of the inverse is over 20 times the total of its start
-  settled-small : (i j : ℕ) → i < n → cell (settled n (at n d) (unit n j) budget) i ≤ 800000000
+  settled-small : (i j : ℕ) → i < n → cell (settled n (at n d) (unit n j) budget) i ≤ cellLimit
   unfolding settled
   settled-small i j h =
       let few = A .few in

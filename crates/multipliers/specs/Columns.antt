@@ -9,9 +9,16 @@ columnSum n c j = sum n (transposed c j)
 abbrev pub allCells : ℕ → (ℕ → ℕ → ℕ) → ℕ
 allCells n c = sum n (columnSum n c)
 
+-- no cell of an inverse is larger: 20 times a total of one in each of 40 sectors; nor a column of 40 such cells
+abbrev pub cellLimit : ℕ
+cellLimit = 800000000
+
+abbrev pub columnLimit : ℕ
+columnLimit = 32000000000
+
 -- of 1 to 40 sectors; no cell is large, and the first is not 0
 pub record Dispersed (n : ℕ) (c : ℕ → ℕ → ℕ) : Type 0 where
   pub some : 1 ≤ n
   pub few : n ≤ 40
-  pub small : (i j : ℕ) → i < n → j < n → c i j ≤ 800000000
+  pub small : (i j : ℕ) → i < n → j < n → c i j ≤ cellLimit
   pub positive : 1 ≤ c 0 0

@@ -153,7 +153,7 @@ fn fill_inverse(
 // The sum of column j of a sheet; transposed, of its row j.
 fn column_sum(n: usize, sheet: &[u64], transposed: bool, j: usize) -> u64
     requires { ⌜ (length (now sheet) ≡ n * n) × Dispersed n (oriented transposed (at n (now sheet))) × (j < n) ⌝ }
-    ensures { λ r. ⌜ (r ≡ columnSum n (oriented transposed (at n (now (sheet .entry)))) j) × (r ≤ 32000000000) ⌝ }
+    ensures { λ r. ⌜ r ≡ columnSum n (oriented transposed (at n (now (sheet .entry)))) j ⌝ }
 {
     let mut sum: u64 = 0;
     for i in 0..n {
@@ -165,7 +165,7 @@ fn column_sum(n: usize, sheet: &[u64], transposed: bool, j: usize) -> u64
 // The sum of all cells, column by column or row by row.
 fn all_cells(n: usize, sheet: &[u64], transposed: bool) -> u64
     requires { ⌜ (length (now sheet) ≡ n * n) × Dispersed n (oriented transposed (at n (now sheet))) ⌝ }
-    ensures { λ r. ⌜ (r ≡ allCells n (oriented transposed (at n (now (sheet .entry))))) × (1 ≤ r) ⌝ }
+    ensures { λ r. ⌜ r ≡ allCells n (oriented transposed (at n (now (sheet .entry)))) ⌝ }
 {
     let mut total: u64 = 0;
     for j in 0..n {

@@ -48,8 +48,8 @@ ready p =
     let a = entry q .args in
     let lp = length (a .power .now) in
     let ls = length (a .sensitivity .now) in
-    let r = accepted-inverse (a .n) (a .d .now) (a .budget) (length (a .sheet .now) ∷ []) (lp ∷ ls ∷ [])
-    (ap (λ (r : Report). r .accepted) (sym (q .fill-inverse .ensures .0)) ∙ accepted p) in
+    let said = ap (λ (r : Report). r .accepted) (sym (q .fill-inverse .ensures .0)) ∙ accepted p in
+    let r = accepted-inverse (a .n) (a .d .now) (a .budget) (length (a .sheet .now) ∷ []) (lp ∷ ls ∷ []) said in
     let l = all-equal (a .n) lp (ls ∷ []) (r .1) in
     (inverse-ready (r .0) (a .budget) (made p), l .0, all-equal (a .n) ls [] (l .1) .0)
 

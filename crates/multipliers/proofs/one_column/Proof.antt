@@ -17,7 +17,7 @@ use Rattle.multipliers.proofs.one_column.Tie as tie
 abbrev zeros : List ℕ
 zeros = replicate 40 0
 
--- the parts of the arrays, before and after the rounds
+-- the parts of the arrays that are lent to the rounds
 part : (s : tie.Start) → length (take (s .args .n) zeros) ≡ s .args .n
 part s = length-take-le (s .args .n) zeros (s .pre .0 .few)
 
@@ -31,7 +31,11 @@ demand-part s v =
 abbrev entry : tie.After-settle → tie.Start
 entry q = q .before .before .before .before .before .before
 
-amounts-length : (q : tie.After-settle) → length (q .settle .last .1 .1 .1 .1 .1 .0) ≡ entry q .args .n
+-- what the rounds leave
+abbrev amounts : tie.After-settle → List ℕ
+amounts q = q .settle .last .1 .1 .1 .1 .1 .0
+
+amounts-length : (q : tie.After-settle) → length (amounts q) ≡ entry q .args .n
 amounts-length q = q .settle .kept .1 .1 .1 .1 .1 .0 ∙ part (entry q)
 
 settle-requires : tie.Need-settle-requires
@@ -45,14 +49,10 @@ settle-requires c κs =
 amounts-part : tie.Need-array-share-prefix-amounts
 amounts-part c =
     let q = c .before .before in
-    subst⁻¹ (λ (k : ℕ). entry q .args .n ≤ k) (length-front zeros (q .settle .last .1 .1 .1 .1 .1 .0) (entry q .args .n) (q .settle .kept .1 .1 .1 .1 .1 .0)) (entry q .pre .0 .few)
+    subst⁻¹ (λ (k : ℕ). entry q .args .n ≤ k) (length-front zeros (amounts q) (entry q .args .n) (q .settle .kept .1 .1 .1 .1 .1 .0)) (entry q .pre .0 .few)
 
--- what is stored
-stored : (q : tie.After-settle) →
-    let n = entry q .args .n in
-    let l = q .settle .last .1 .1 .1 .1 .1 .0 in
-    take n (l ++ drop n zeros) ≡ l
-stored q = take-at _ (drop (entry q .args .n) zeros) (entry q .args .n) (amounts-length q)
+stored : (q : tie.After-settle) → let n = entry q .args .n in take n (amounts q ++ drop n zeros) ≡ amounts q
+stored q = take-at (amounts q) (drop (entry q .args .n) zeros) (entry q .args .n) (amounts-length q)
 
 put-column-requires : tie.Need-put-column-requires
 put-column-requires c κs =
