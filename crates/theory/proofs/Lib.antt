@@ -2,7 +2,7 @@
 -- promise (Promises).
 pub mod Sums
 pub mod Lists
-pub mod Places
+pub mod Matrices
 pub mod Shares
 pub mod Gauge
 pub mod Rounds

@@ -1,7 +1,7 @@
 -- What the checks of a table say of it. Assumes nothing.
 use mathlib.Core.Path.{_≡_, ap, ap₂, _∙_}
 use mathlib.Core.Bool.{true}
-use mathlib.Core.List.{List, [], _∷_, _++_}
+use mathlib.Core.List.{List, _∷_}
 use Prim.Native.Nat.{ℕ, _+_, _*_, _-_, _/_, _%_, _≤_, _<_}
 use native.Mathlib.Nat.{sub-le}
 use native.Mathlib.Omega.{arith}
@@ -15,7 +15,7 @@ use Rattle.model.specs.Calls.{tableChecks, inputCoefficients, importCoefficient
 use Rattle.theory.specs.Tables.{TableSizes, TableAmounts, Balanced}
 use Rattle.theory.proofs.Lists.{all-equal, cell-tabulate, tabulate-cong}
 use Rattle.theory.proofs.Sums.{sum-cell}
-use Rattle.theory.proofs.Places.{place-row, place-column, place-cell}
+use Rattle.theory.proofs.Matrices.{place-row, place-column, place-cell}
 use Rattle.theory.proofs.Shares.{share-le, portion-le}
 use Rattle.theory.proofs.Verdicts.{Passes, AllPass, sized}
 

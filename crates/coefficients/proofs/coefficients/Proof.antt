@@ -61,8 +61,7 @@ returns-2 c =
     let r = c .before .before .before .before .before .before .before .before .before .before in
     let p = r .before .before .before .before .before .before in
     let q = p .before .before in
-    let o = r .check-sheets .ensures .1 in
-    (
+    let o = r .check-sheets .ensures .1 in (
       r .check-sheets .ensures .0 ∙ answered-on (asked q) (q .check-table .ensures) (last q) 0 (p .enum-told .given .1),
       (o .inputs, (o .values, (o .imports, (o .domestic, o .demands)))),
     )

@@ -1,15 +1,13 @@
 -- `coefficients::fill_demand` meets its contract: the cells below i are those of the definition. Assumes nothing.
-use mathlib.Core.Path.{_≡_, sym, ap, ap₂, _∙_}
-use Prim.Native.Nat.{ℕ, _+_, _*_, _-_, _/_, _%_, _≤_, _<_}
-use native.Mathlib.Nat.{le-trans, mul-le-mul, sub-le}
+use mathlib.Core.Path.{_≡_, ap}
+use Prim.Native.Nat.{ℕ, _+_, _-_, _≤_}
+use native.Mathlib.Nat.{mul-le-mul, sub-le}
 use native.Mathlib.Omega.{arith}
-use borrow.Author.Needs.{needs}
 use lib.ListN.{length, length-set}
-use Rattle.model.specs.Numbers.{one, at, cell}
-use Rattle.model.specs.Table.{absorption, portion, share}
+use Rattle.model.specs.Numbers.{one, cell}
+use Rattle.model.specs.Table.{portion}
 use Rattle.theory.proofs.Lists.{Agree, agree-none, agree-set, tabulated}
 use Rattle.theory.proofs.Shares.{portion-le}
-use Rattle.theory.proofs.Places.{place-row, place-column, place-cell}
 use Rattle.coefficients.proofs.fill_demand.Statement.{statement}
 use Rattle.coefficients.proofs.fill_demand.Tie as tie
 
