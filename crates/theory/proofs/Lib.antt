@@ -12,4 +12,5 @@ pub mod Verdicts
 pub mod Answers
 pub mod Tables
 pub mod Promises
+pub mod Prepared
 pub mod Balances
