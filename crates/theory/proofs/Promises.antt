@@ -67,10 +67,14 @@ module _ {n : ℕ} {d : List ℕ} (A : AcceptedMatrix n d) where
     rounds-fit false = production-fits
 
     -- and the total of a round is one that question 8 lets pass
-    pub total-fits : (k : ℕ) → sum n (cell (rounds n (at n d) s k)) ≤ 1600000000000
+    total-fits : (k : ℕ) → sum n (cell (rounds n (at n d) s k)) ≤ 1600000000000
     total-fits k =
         let t = total-small in
         omega (arith, rounds-bounded n (at n d) (sum n) n (total-gauge n (at n d) (A .low)) s k)
+
+    pub settled-total : (budget : ℕ) → sum n (cell (settled n (at n d) s budget)) ≤ 1600000000000
+    unfolding settled
+    settled-total budget = total-fits (settling n (at n d) s budget)
 
   pub implied-fits : (y : List ℕ) → sum n (cell y) ≤ 1600000000000 → (i : ℕ) → i < n → weighted n (at n d) (cell y) i ≤ sumLimit
   implied-fits y h i l =
@@ -111,7 +115,7 @@ not-above-given n d y p z k σ =
 -- Demand 2: where production is accepted, going back from what it gives is accepted too, and returns the demand
 pub forward-then-back : (n : ℕ) (d f : List ℕ) (budget : ℕ) (lent : List ℕ) → productionReport n d f budget lent .accepted ≡ true
     → (impliedReport n d (settled n (at n d) f budget) (n ∷ []) ≡ accepts 0) × (impliedDemand n (at n d) (settled n (at n d) f budget) ≡ f)
-unfolding productionReport impliedReport settled
+unfolding productionReport impliedReport
 forward-then-back n d f budget lent a = (
   pass-on (matrixChecks n d [] (length y ∷ n ∷ [])) (productionTotal n y ∷ demandLeft n (at n d) y ∷ []) 0
       (matrix-accepted n d [] (length y ∷ n ∷ []) (s .matrix) refl (rw (eq-eqb n (length y) (sym (settles-length n (at n d) (s .start) σ)), eq-eqb n n refl)))
@@ -130,7 +134,7 @@ forward-then-back n d f budget lent a = (
     σ = accepted-settled n d (at n d) demandLimit f budget lent a .1
 
     total : sum n (cell y) ≤ 1600000000000
-    total = total-fits (s .matrix) f (s .small) (settling n (at n d) f budget)
+    total = settled-total (s .matrix) f (s .small) budget
 
     left : (i : ℕ) → i < n → intermediate n (at n d) (cell y) i ≤ cell y i
     left i h = omega (arith, settles-fixed n (at n d) σ i h)
