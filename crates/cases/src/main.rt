@@ -1,63 +1,18 @@
 // Runs the calls on the worked cases of document 01 and on their neighbours, and prints each answer with every output and work cell. Each
 // slice that is lent holds 7 in every cell before the call.
 use implied::implied_demand;
-use io::print_decimal;
-use libc::STDOUT_FILENO;
-use model::Answer;
-use model::Outcome;
 use rounds::price;
 use rounds::production;
-
-fn show_outcome(outcome: Outcome) {
-    match outcome {
-        Outcome::Settled { rounds } => {
-            io::write_all(STDOUT_FILENO, b" rounds ");
-            print_decimal(STDOUT_FILENO, rounds as u64);
-        }
-        Outcome::Refused { number, place } => show_refusal(number, place),
-    }
-}
-
-fn show_answer(answer: Answer) {
-    match answer {
-        Answer::Accepted => {
-            io::write_all(STDOUT_FILENO, b" accepted");
-        }
-        Answer::Refused { number, place } => show_refusal(number, place),
-    }
-}
-
-fn show_refusal(number: u8, place: usize) {
-    io::write_all(STDOUT_FILENO, b" refused ");
-    print_decimal(STDOUT_FILENO, number as u64);
-    io::write_all(STDOUT_FILENO, b" ");
-    print_decimal(STDOUT_FILENO, place as u64);
-}
-
-fn show_cell(cell: u64) {
-    io::write_all(STDOUT_FILENO, b" ");
-    print_decimal(STDOUT_FILENO, cell);
-}
-
-fn show_cells(cells: &[u64]) {
-    for i in 0..cells.len() {
-        show_cell(cells[i]);
-    }
-}
-
-fn show_slices(out: &[u64], work: &[u64]) {
-    io::write_all(STDOUT_FILENO, b":");
-    show_cells(out);
-    io::write_all(STDOUT_FILENO, b" |");
-    show_cells(work);
-    io::write_all(STDOUT_FILENO, b"\n");
-}
+use show::show_answer;
+use show::show_outcome;
+use show::show_slices;
+use show::show_word;
 
 // Production on two output cells and two work cells.
 fn produce(name: &[u8], n: usize, d: &[u64], f: &[u64], budget: u32) {
     let mut out = [7u64; 2];
     let mut work = [7u64; 2];
-    io::write_all(STDOUT_FILENO, name);
+    show_word(name);
     show_outcome(production(n, d, f, budget, &mut out, &mut work));
     show_slices(&out, &work);
 }
@@ -66,7 +21,7 @@ fn produce(name: &[u8], n: usize, d: &[u64], f: &[u64], budget: u32) {
 fn produce_lengths(name: &[u8], n: usize, d: &[u64], f: &[u64], budget: u32) {
     let mut out = [7u64; 1];
     let mut work = [7u64; 3];
-    io::write_all(STDOUT_FILENO, name);
+    show_word(name);
     show_outcome(production(n, d, f, budget, &mut out, &mut work));
     show_slices(&out, &work);
 }
@@ -77,7 +32,7 @@ fn produce_one(name: &[u8], d: u64, f: u64, budget: u32) {
     let demand = [f; 1];
     let mut out = [7u64; 1];
     let mut work = [7u64; 1];
-    io::write_all(STDOUT_FILENO, name);
+    show_word(name);
     show_outcome(production(1, &matrix, &demand, budget, &mut out, &mut work));
     show_slices(&out, &work);
 }
@@ -88,7 +43,7 @@ fn produce_forty(name: &[u8], d: u64, f: u64, budget: u32) {
     let demand = [f; 40];
     let mut out = [7u64; 40];
     let mut work = [7u64; 40];
-    io::write_all(STDOUT_FILENO, name);
+    show_word(name);
     show_outcome(production(40, &matrix, &demand, budget, &mut out, &mut work));
     show_slices(&out, &work);
 }
@@ -96,7 +51,7 @@ fn produce_forty(name: &[u8], d: u64, f: u64, budget: u32) {
 fn rise(name: &[u8], n: usize, d: &[u64], w: &[u64], budget: u32) {
     let mut out = [7u64; 2];
     let mut work = [7u64; 2];
-    io::write_all(STDOUT_FILENO, name);
+    show_word(name);
     show_outcome(price(n, d, w, budget, &mut out, &mut work));
     show_slices(&out, &work);
 }
@@ -104,7 +59,7 @@ fn rise(name: &[u8], n: usize, d: &[u64], w: &[u64], budget: u32) {
 fn imply(name: &[u8], n: usize, d: &[u64], y: &[u64]) {
     let mut out = [7u64; 2];
     let none = [0u64; 0];
-    io::write_all(STDOUT_FILENO, name);
+    show_word(name);
     show_answer(implied_demand(n, d, y, &mut out));
     show_slices(&out, &none);
 }
@@ -114,7 +69,7 @@ fn round_trip(name: &[u8], d: &[u64], f: &[u64]) {
     let mut y = [7u64; 2];
     let mut work = [7u64; 2];
     let mut back = [7u64; 2];
-    io::write_all(STDOUT_FILENO, name);
+    show_word(name);
     show_outcome(production(2, d, f, 1400, &mut y, &mut work));
     show_answer(implied_demand(2, d, &y, &mut back));
     show_slices(&y, &back);

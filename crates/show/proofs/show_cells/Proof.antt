@@ -1,10 +1,10 @@
--- `cases::show_cells` is safe and ends. Assumes nothing.
+-- `show::show_cells` is safe and ends. Assumes nothing.
 use mathlib.Core.Path.{_≡_}
 use Prim.Native.Nat.{_≤_, _-_}
 use borrow.Author.Needs.{needs}
 use lib.ListN.{length}
-use Rattle.cases.proofs.show_cells.Statement.{statement}
-use Rattle.cases.proofs.show_cells.Tie as tie
+use Rattle.show.proofs.show_cells.Statement.{statement}
+use Rattle.show.proofs.show_cells.Tie as tie
 
 abbrev Inv-loop : tie.InvT-loop
 Inv-loop cells i₀ i-end i = (i ≤ length cells) × (i-end ≡ length cells)
