@@ -10,6 +10,7 @@ ghost use lib.ListN.{length};
 ghost use Rattle.model.specs.Numbers.{all, at, cell};
 ghost use Rattle.model.specs.Rounds.{weighted};
 ghost use Rattle.model.specs.Checks.{Check, report, verdict, bounded, size, lengths, columnSums, productionTotal, demandLeft};
+ghost use Rattle.model.specs.Calls.{matrixChecks};
 ghost use Rattle.theory.specs.Bounds.{sumLimit};
 
 // Question 1: is n from 1 to 40?
@@ -141,6 +142,14 @@ pub fn check_matrix(n: usize, d: &[u64], matrices: &[usize], lent: &[usize]) -> 
         return Answer::Refused { number, place };
     }
     columns_within(n, d)
+}
+
+// The same of a call that is lent no other matrix.
+pub fn check_domestic(n: usize, d: &[u64], lent: &[usize]) -> Answer
+    ensures { λ r. ⌜ report r ≡ verdict (matrixChecks n (now (d .entry)) [] (now (lent .entry))) 0 ⌝ }
+{
+    let matrices = [d.len()];
+    check_matrix(n, d, &matrices, lent)
 }
 
 // Question 8 of a given production: is the running total at most 1,600,000,000,000 in every sector?

@@ -1,7 +1,7 @@
 // The demand for domestic goods behind a given production.
 use cells::fill_zero;
 use cells::intermediate_use;
-use checks::check_matrix;
+use checks::check_domestic;
 use checks::demand_left;
 use checks::total_within;
 use model::Answer;
@@ -21,9 +21,8 @@ ghost use Rattle.theory.specs.Bounds.{sumLimit};
 fn check_production(n: usize, d: &[u64], y: &[u64], out_len: usize) -> Answer
     ensures { λ r. ⌜ report r ≡ verdict (matrixChecks n (now (d .entry)) [] (length (now (y .entry)) ∷ «out_len» ∷ []) ++ (productionTotal n (now (y .entry)) ∷ [])) 0 ⌝ }
 {
-    let matrices = [d.len()];
     let lent = [y.len(), out_len];
-    let matrix = check_matrix(n, d, &matrices, &lent);
+    let matrix = check_domestic(n, d, &lent);
     if let Answer::Refused { number, place } = matrix {
         return Answer::Refused { number, place };
     }

@@ -13,7 +13,7 @@ ghost use Prim.Native.Nat.{ℕ, _*_, _<_, _≤_};
 ghost use lib.ListN.{length};
 ghost use Rattle.model.specs.Numbers.{at, cell, one, sum};
 ghost use Rattle.model.specs.Rounds.{inducedImports, inducedValueAdded};
-ghost use Rattle.model.specs.Checks.{amountLimit, inducedAmounts, output, report, verdict, size, lengths};
+ghost use Rattle.model.specs.Checks.{amountLimit, inducedAmounts, output, report, verdict};
 ghost use Rattle.model.specs.Calls.{inducedReport};
 
 // Question 3: shares within one, amounts within 1,000,000,000.
@@ -54,35 +54,6 @@ fn fill_imports(n: usize, a: &[u64], m: &[u64], final_demand: &[u64], y: &[u64],
     }
 }
 
-// Questions 1, 2 and 3.
-fn check_inputs(
-    n: usize,
-    a: &[u64],
-    m: &[u64],
-    v: &[u64],
-    final_demand: &[u64],
-    y_len: usize,
-    value_len: usize,
-    imports_len: usize,
-) -> Answer
-    ensures { λ r. ⌜ report r ≡ verdict (size n ∷ lengths n (length (now (a .entry)) ∷ []) (length (now (m .entry)) ∷ length (now (v .entry)) ∷ length (now («final_demand» .entry)) ∷ «y_len» ∷ «value_len» ∷ «imports_len» ∷ []) ∷ inducedAmounts n (now (a .entry)) (now (m .entry)) (now (v .entry)) (now («final_demand» .entry))) 0 ⌝ }
-{
-    let matrices = [a.len()];
-    let lent = [
-        m.len(),
-        v.len(),
-        final_demand.len(),
-        y_len,
-        value_len,
-        imports_len,
-    ];
-    let sizes = check_sizes(n, &matrices, &lent);
-    if let Answer::Refused { number, place } = sizes {
-        return Answer::Refused { number, place };
-    }
-    check_amounts(n, a, m, v, final_demand)
-}
-
 // Questions 1, 2, 3 and 8.
 fn check_induced(
     n: usize,
@@ -96,8 +67,21 @@ fn check_induced(
 ) -> Answer
     ensures { λ r. ⌜ report r ≡ inducedReport n (now (a .entry)) (now (m .entry)) (now (v .entry)) (now («final_demand» .entry)) (now (y .entry)) («value_len» ∷ «imports_len» ∷ []) ⌝ }
 {
-    let inputs = check_inputs(n, a, m, v, final_demand, y.len(), value_len, imports_len);
-    if let Answer::Refused { number, place } = inputs {
+    let matrices = [a.len()];
+    let lent = [
+        m.len(),
+        v.len(),
+        final_demand.len(),
+        y.len(),
+        value_len,
+        imports_len,
+    ];
+    let sizes = check_sizes(n, &matrices, &lent);
+    if let Answer::Refused { number, place } = sizes {
+        return Answer::Refused { number, place };
+    }
+    let amounts = check_amounts(n, a, m, v, final_demand);
+    if let Answer::Refused { number, place } = amounts {
         return Answer::Refused { number, place };
     }
     total_within(n, y)

@@ -3,7 +3,7 @@ use cells::copy_cells;
 use cells::fill_zero;
 use cells::turn;
 use checks::cells_within;
-use checks::check_matrix;
+use checks::check_domestic;
 use model::Answer;
 use model::Outcome;
 ghost use mathlib.Core.Bool.{true};
@@ -86,9 +86,8 @@ fn check_start(
 ) -> Answer
     ensures { λ r. ⌜ report r ≡ verdict (matrixChecks n (now (d .entry)) [] (length (now (start .entry)) ∷ «out_len» ∷ «work_len» ∷ []) ++ (bounded 8 0 limit (now (start .entry)) ∷ [])) 0 ⌝ }
 {
-    let matrices = [d.len()];
     let lent = [start.len(), out_len, work_len];
-    let matrix = check_matrix(n, d, &matrices, &lent);
+    let matrix = check_domestic(n, d, &lent);
     if let Answer::Refused { number, place } = matrix {
         return Answer::Refused { number, place };
     }

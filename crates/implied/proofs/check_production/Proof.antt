@@ -12,39 +12,34 @@ use Rattle.implied.proofs.check_production.Statement.{statement}
 use Rattle.implied.proofs.check_production.Tie as tie
 
 -- questions 1, 2 and 7 of the call's slices, what was answered to them, and question 8
-abbrev entry : tie.After-check-matrix → tie.Start
-entry q = q .before .before .before .before .before
+abbrev entry : tie.After-check-domestic → tie.Start
+entry q = q .before .before .before .before
 
-abbrev asked : tie.After-check-matrix → List Check
+abbrev asked : tie.After-check-domestic → List Check
 asked q = let a = entry q .args in matrixChecks (a .n) (a .d .now) [] (length (a .y .now) ∷ a .out-len ∷ [])
 
-abbrev last : tie.After-check-matrix → List Check
+abbrev last : tie.After-check-domestic → List Check
 last q = let a = entry q .args in productionTotal (a .n) (a .y .now) ∷ []
-
-check-matrix-requires : tie.Need-check-matrix-requires
-check-matrix-requires c κs e =
-    let a = c .before .before .before .before .args in
-    all-equal (a .n * a .n) (length (a .d .now)) [] e .0
 
 returns : tie.Need-returns
 returns c =
     let q = c .before .before .before in
-    answered-stop (asked q) (q .check-matrix .ensures) (last q) 0 (c .before .matrix .given .1)
+    answered-stop (asked q) (q .check-domestic .ensures) (last q) 0 (c .before .matrix .given .1)
 
 total-within-requires : tie.Need-total-within-requires
 total-within-requires c κs =
     let q = c .before .before in
     let a = entry q .args in
-    first-length (a .n) (a .d .now) [] (a .out-len ∷ []) (length (a .y .now)) (answered-pass (asked q) (q .check-matrix .ensures) (c .enum-told .given .1))
+    first-length (a .n) (a .d .now) [] (a .out-len ∷ []) (length (a .y .now)) (answered-pass (asked q) (q .check-domestic .ensures) (c .enum-told .given .1))
 
 returns-2 : tie.Need-returns-2
 returns-2 c =
     let q = c .before .before .before in
-    c .total-within .ensures ∙ answered-on (asked q) (q .check-matrix .ensures) (last q) 0 (c .before .enum-told .given .1)
+    c .total-within .ensures ∙ answered-on (asked q) (q .check-domestic .ensures) (last q) 0 (c .before .enum-told .given .1)
 
 pub check-production-spec : {M : Type 1} → statement M
 check-production-spec =
     tie.close
     (tie.spec
-    (λ c. search needs) (λ c. search needs) check-matrix-requires (λ c. search needs) returns (λ c. search needs)
+    (λ c. search needs) (λ c κs. search needs) (λ c. search needs) returns (λ c. search needs)
     total-within-requires returns-2)

@@ -1,50 +1,78 @@
 -- `induced::check_induced` meets its contract: each way out has its law. Assumes nothing.
-use mathlib.Core.List.{List, [], _∷_}
-use mathlib.Core.Path.{_∙_}
+use mathlib.Core.List.{List, [], _∷_, _++_}
+use mathlib.Core.Path.{_≡_, _∙_}
+use Prim.Native.Nat.{ℕ}
 use borrow.Author.Needs.{needs}
 use lib.ListN.{length}
-use Rattle.model.specs.Checks.{Check, size, lengths, inducedAmounts, productionTotal}
+use Rattle.model.specs.Checks.{Check, report, verdict, size, lengths, inducedAmounts, productionTotal}
 use Rattle.model.specs.Calls.{inducedReport}
 use Rattle.theory.proofs.Verdicts.{answered-pass, answered-on, answered-stop}
-use Rattle.theory.proofs.Answers.{induced-sizes}
+use Rattle.theory.proofs.Answers.{InducedSizes, induced-sizes}
 use Rattle.induced.proofs.check_induced.Statement.{statement}
 use Rattle.induced.proofs.check_induced.Tie as tie
 
--- questions 1, 2 and 3, and question 8
-abbrev entry : tie.After-check-inputs → tie.Start
-entry q = q .before .before .before .before .before .before
+abbrev entry : tie.After-check-sizes → tie.Start
+entry q = q .before .before .before .before .before .before .before .before
 
-abbrev asked : tie.After-check-inputs → List Check
-asked q =
+-- questions 1 and 2, question 3, and question 8
+abbrev sizes : tie.After-check-sizes → List Check
+sizes q =
     let a = entry q .args in
     let columns = length (a .m .now) ∷ length (a .v .now) ∷ length (a .final-demand .now) ∷ length (a .y .now) ∷ a .value-len ∷ a .imports-len ∷ [] in
-    size (a .n) ∷ lengths (a .n) (length (a .a .now) ∷ []) columns ∷ inducedAmounts (a .n) (a .a .now) (a .m .now) (a .v .now) (a .final-demand .now)
+    size (a .n) ∷ lengths (a .n) (length (a .a .now) ∷ []) columns ∷ []
 
-abbrev last : tie.After-check-inputs → List Check
-last q = let a = entry q .args in productionTotal (a .n) (a .y .now) ∷ []
+abbrev amounts : tie.After-check-sizes → List Check
+amounts q = let a = entry q .args in inducedAmounts (a .n) (a .a .now) (a .m .now) (a .v .now) (a .final-demand .now)
+
+abbrev last : tie.After-check-sizes → List Check
+last q = productionTotal (entry q .args .n) (entry q .args .y .now) ∷ []
+
+-- what questions 1 and 2 say, and what was answered to question 3 after them
+lengths-are :
+    (p : tie.After-enum-told) →
+    let a = entry (p .before .before) .args in
+    InducedSizes (a .n) (a .a .now) (a .m .now) (a .v .now) (a .final-demand .now) (length (a .y .now)) (a .value-len ∷ a .imports-len ∷ [])
+lengths-are p =
+    let q = p .before .before in
+    let a = entry q .args in
+    let s = answered-pass (sizes q) (q .check-sizes .ensures) (p .enum-told .given .1) in
+    induced-sizes (a .n) (a .a .now) (a .m .now) (a .v .now) (a .final-demand .now) (length (a .y .now)) (a .value-len ∷ a .imports-len ∷ []) (s .0) (s .1 .0)
+
+said : (r : tie.After-check-amounts) → let q = r .before .before .before in report (r .check-amounts .result) ≡ verdict (sizes q ++ amounts q) 0
+said r =
+    let p = r .before in
+    let q = p .before .before in
+    r .check-amounts .ensures ∙ answered-on (sizes q) (q .check-sizes .ensures) (amounts q) 0 (p .enum-told .given .1)
 
 returns : tie.Need-returns
 unfolding inducedReport
 returns c =
     let q = c .before .before .before in
-    answered-stop (asked q) (q .check-inputs .ensures) (last q) 0 (c .before .inputs .given .1)
+    answered-stop (sizes q) (q .check-sizes .ensures) (amounts q ++ last q) 0 (c .before .sizes .given .1)
 
-total-within-requires : tie.Need-total-within-requires
-total-within-requires c κs =
-    let q = c .before .before in
-    let a = entry q .args in
-    let p = answered-pass (asked q) (q .check-inputs .ensures) (c .enum-told .given .1) in
-    induced-sizes (a .n) (a .a .now) (a .m .now) (a .v .now) (a .final-demand .now) (length (a .y .now)) (a .value-len ∷ a .imports-len ∷ []) (p .0) (p .1 .0)
-    .production
+check-amounts-requires : tie.Need-check-amounts-requires
+check-amounts-requires c κs =
+    let s = lengths-are c in
+    (s .few, s .inputs, s .imports, s .values, s .demand)
 
 returns-2 : tie.Need-returns-2
 unfolding inducedReport
 returns-2 c =
-    let q = c .before .before .before in
-    c .total-within .ensures ∙ answered-on (asked q) (q .check-inputs .ensures) (last q) 0 (c .before .enum-told .given .1)
+    let r = c .before .before .before in
+    let q = r .before .before .before in
+    answered-stop (sizes q ++ amounts q) (said r) (last q) 0 (c .before .amounts .given .1)
+
+returns-3 : tie.Need-returns-3
+unfolding inducedReport
+returns-3 c =
+    let r = c .before .before .before in
+    let q = r .before .before .before in
+    c .total-within .ensures ∙ answered-on (sizes q ++ amounts q) (said r) (last q) 0 (c .before .enum-told2 .given .1)
 
 pub check-induced-spec : {M : Type 1} → statement M
 check-induced-spec =
     tie.close
     (tie.spec
-    (λ c κs. search needs) (λ c. search needs) returns (λ c. search needs) total-within-requires returns-2)
+    (λ c. search needs) (λ c. search needs) (λ c κs. search needs) (λ c. search needs) returns (λ c. search needs)
+    check-amounts-requires (λ c. search needs) returns-2 (λ c. search needs)
+    (λ c κs. lengths-are (c .before .before .before) .production) returns-3)

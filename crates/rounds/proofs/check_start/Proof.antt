@@ -12,36 +12,31 @@ use Rattle.rounds.proofs.check_start.Statement.{statement}
 use Rattle.rounds.proofs.check_start.Tie as tie
 
 -- questions 1, 2 and 7 of the call's slices, what was answered to them, and question 8
-abbrev entry : tie.After-check-matrix → tie.Start
-entry q = q .before .before .before .before .before
+abbrev entry : tie.After-check-domestic → tie.Start
+entry q = q .before .before .before .before
 
-abbrev lent : tie.After-check-matrix → List ℕ
+abbrev lent : tie.After-check-domestic → List ℕ
 lent q = entry q .args .out-len ∷ entry q .args .work-len ∷ []
 
-abbrev asked : tie.After-check-matrix → List Check
+abbrev asked : tie.After-check-domestic → List Check
 asked q = let a = entry q .args in matrixChecks (a .n) (a .d .now) [] (length (a .start .now) ∷ lent q)
 
-abbrev last : tie.After-check-matrix → List Check
+abbrev last : tie.After-check-domestic → List Check
 last q = let a = entry q .args in bounded 8 0 (a .limit) (a .start .now) ∷ []
-
-check-matrix-requires : tie.Need-check-matrix-requires
-check-matrix-requires c κs e =
-    let a = c .before .before .before .before .args in
-    all-equal (a .n * a .n) (length (a .d .now)) [] e .0
 
 returns : tie.Need-returns
 returns c =
     let q = c .before .before .before in
-    answered-stop (asked q) (q .check-matrix .ensures) (last q) 0 (c .before .matrix .given .1)
+    answered-stop (asked q) (q .check-domestic .ensures) (last q) 0 (c .before .matrix .given .1)
 
 returns-2 : tie.Need-returns-2
 returns-2 c =
     let q = c .before .before .before in
-    c .cells-within .ensures ∙ answered-on (asked q) (q .check-matrix .ensures) (last q) 0 (c .before .enum-told .given .1)
+    c .cells-within .ensures ∙ answered-on (asked q) (q .check-domestic .ensures) (last q) 0 (c .before .enum-told .given .1)
 
 pub check-start-spec : {M : Type 1} → statement M
 check-start-spec =
     tie.close
     (tie.spec
-    (λ c. search needs) (λ c. search needs) check-matrix-requires (λ c. search needs) returns (λ c. search needs)
+    (λ c. search needs) (λ c κs. search needs) (λ c. search needs) returns (λ c. search needs)
     (λ c κs. search needs) returns-2)
