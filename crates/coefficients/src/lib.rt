@@ -12,9 +12,8 @@ ghost use Prim.Native.Nat.{ℕ, _+_, _*_, _-_, _<_, _≤_};
 ghost use lib.ListN.{length, replicate};
 ghost use Rattle.model.specs.Numbers.{at, cell, matrix, one, tabulate};
 ghost use Rattle.model.specs.Table.{absorption, portion, share, tableOf};
-ghost use Rattle.model.specs.Checks.{accepts, amountLimit, columnSums, output, report, verdict};
+ghost use Rattle.model.specs.Checks.{amountLimit, columnSums, output, report, verdict};
 ghost use Rattle.model.specs.Calls.{coefficientsReport, domesticCoefficients, domesticDemands, importCoefficients, inputCoefficients, valueAddedCoefficients};
-ghost use Rattle.theory.specs.Tables.{Balanced, SheetOutputs, TableAmounts, TableSizes};
 
 // Shares of the columns of x: each flow's part of the production of the sector that buys.
 fn fill_inputs(n: usize, x: &[u64], production: &[u64], a: &mut [u64])
@@ -94,70 +93,30 @@ fn clear(a: &mut [u64], v: &mut [u64], m: &mut [u64], d: &mut [u64], f: &mut [u6
     fill_zero(f);
 }
 
-// The five sheets of a table that passes questions 1 to 6.
-fn fill_sheets(
+// d and f from a and m, with question 7 of d. Where that refuses, all five outputs are cleared.
+fn finish(
     n: usize,
-    x: &[u64],
     final_demand: &[u64],
     exports: &[u64],
-    imports: &[u64],
-    value_added: &[u64],
-    production: &[u64],
-    a: &mut [u64],
-    v: &mut [u64],
-    m: &mut [u64],
-    d: &mut [u64],
-    f: &mut [u64],
-)
-    requires { ⌜ TableSizes (tableOf n (now x) (now «final_demand») (now exports) (now imports) (now «value_added») (now production)) ⌝ }
-    requires { ⌜ TableAmounts (tableOf n (now x) (now «final_demand») (now exports) (now imports) (now «value_added») (now production)) ⌝ }
-    requires { ⌜ Balanced (tableOf n (now x) (now «final_demand») (now exports) (now imports) (now «value_added») (now production)) ⌝ }
-    requires { ⌜ (length (now a) ≡ n * n) × (length (now v) ≡ n) × (length (now m) ≡ n) × (length (now d) ≡ n * n) × (length (now f) ≡ n) ⌝ }
-    ensures { λ _. ⌜ SheetOutputs (tableOf n (now (x .entry)) (now («final_demand» .entry)) (now (exports .entry)) (now (imports .entry)) (now («value_added» .entry)) (now (production .entry))) (accepts 0) (length (now (a .entry))) (length (now (v .entry))) (length (now (m .entry))) (length (now (d .entry))) (length (now (f .entry))) (now (a .exit)) (now (v .exit)) (now (m .exit)) (now (d .exit)) (now (f .exit)) ⌝ }
-{
-    fill_inputs(n, x, production, a);
-    fill_shares(n, value_added, production, v);
-    fill_imports(n, x, final_demand, imports, m);
-    fill_domestic(n, a, m, d);
-    fill_demand(n, m, final_demand, exports, f);
-}
-
-// The same with question 7, of the domestic coefficients just worked out.
-fn check_sheets(
-    n: usize,
-    x: &[u64],
-    final_demand: &[u64],
-    exports: &[u64],
-    imports: &[u64],
-    value_added: &[u64],
-    production: &[u64],
     a: &mut [u64],
     v: &mut [u64],
     m: &mut [u64],
     d: &mut [u64],
     f: &mut [u64],
 ) -> Answer
-    requires { ⌜ TableSizes (tableOf n (now x) (now «final_demand») (now exports) (now imports) (now «value_added») (now production)) ⌝ }
-    requires { ⌜ TableAmounts (tableOf n (now x) (now «final_demand») (now exports) (now imports) (now «value_added») (now production)) ⌝ }
-    requires { ⌜ Balanced (tableOf n (now x) (now «final_demand») (now exports) (now imports) (now «value_added») (now production)) ⌝ }
-    requires { ⌜ (length (now a) ≡ n * n) × (length (now v) ≡ n) × (length (now m) ≡ n) × (length (now d) ≡ n * n) × (length (now f) ≡ n) ⌝ }
-    ensures { λ r. ⌜ report r ≡ verdict (columnSums n (at n (domesticCoefficients (tableOf n (now (x .entry)) (now («final_demand» .entry)) (now (exports .entry)) (now (imports .entry)) (now («value_added» .entry)) (now (production .entry))))) ∷ []) 0 ⌝ }
-    ensures { λ r. ⌜ SheetOutputs (tableOf n (now (x .entry)) (now («final_demand» .entry)) (now (exports .entry)) (now (imports .entry)) (now («value_added» .entry)) (now (production .entry))) (report r) (length (now (a .entry))) (length (now (v .entry))) (length (now (m .entry))) (length (now (d .entry))) (length (now (f .entry))) (now (a .exit)) (now (v .exit)) (now (m .exit)) (now (d .exit)) (now (f .exit)) ⌝ }
+    requires { ⌜ (1 ≤ n) × (n ≤ 40) × (length (now «final_demand») ≡ n) × (length (now exports) ≡ n) × (length (now a) ≡ n * n) × (length (now m) ≡ n) × (length (now d) ≡ n * n) × (length (now f) ≡ n) ⌝ }
+    requires { ⌜ ((k : ℕ) → k < n * n → cell (now a) k ≤ one) ⌝ }
+    requires { ⌜ ((k : ℕ) → k < n → cell (now m) k ≤ one) ⌝ }
+    requires { ⌜ ((k : ℕ) → k < n → (cell (now «final_demand») k ≤ amountLimit) × (cell (now exports) k ≤ amountLimit)) ⌝ }
+    ensures { λ r. ⌜ report r ≡ verdict (columnSums n (at n (matrix n (λ i j. portion (one - cell (now (m .entry)) i) (at n (now (a .entry)) i j)))) ∷ []) 0 ⌝ }
+    ensures { λ r. ⌜ now (a .exit) ≡ output (report r) (length (now (a .entry))) (now (a .entry)) ⌝ }
+    ensures { λ r. ⌜ now (v .exit) ≡ output (report r) (length (now (v .entry))) (now (v .entry)) ⌝ }
+    ensures { λ r. ⌜ now (m .exit) ≡ output (report r) (length (now (m .entry))) (now (m .entry)) ⌝ }
+    ensures { λ r. ⌜ now (d .exit) ≡ output (report r) (length (now (d .entry))) (matrix n (λ i j. portion (one - cell (now (m .entry)) i) (at n (now (a .entry)) i j))) ⌝ }
+    ensures { λ r. ⌜ now (f .exit) ≡ output (report r) (length (now (f .entry))) (tabulate n (λ i. portion (one - cell (now (m .entry)) i) (cell (now («final_demand» .entry)) i) + cell (now (exports .entry)) i)) ⌝ }
 {
-    fill_sheets(
-        n,
-        x,
-        final_demand,
-        exports,
-        imports,
-        value_added,
-        production,
-        a,
-        v,
-        m,
-        d,
-        f,
-    );
+    fill_domestic(n, a, m, d);
+    fill_demand(n, m, final_demand, exports, f);
     let columns = columns_within(n, d);
     if let Answer::Refused { number, place } = columns {
         clear(a, v, m, d, f);
@@ -207,18 +166,8 @@ pub fn coefficients(
         clear(a, v, m, d, f);
         return Answer::Refused { number, place };
     }
-    check_sheets(
-        n,
-        x,
-        final_demand,
-        exports,
-        imports,
-        value_added,
-        production,
-        a,
-        v,
-        m,
-        d,
-        f,
-    )
+    fill_inputs(n, x, production, a);
+    fill_shares(n, value_added, production, v);
+    fill_imports(n, x, final_demand, imports, m);
+    finish(n, final_demand, exports, a, v, m, d, f)
 }

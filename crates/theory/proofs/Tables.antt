@@ -119,7 +119,7 @@ module _ (t : Table) where
   unfolding importCoefficients
   import-cell i h = cell-tabulate (t .sectors) (importCoefficient t) i h
 
-  pub domestic-is : 1 ≤ t .sectors
+  domestic-is : 1 ≤ t .sectors
       → matrix (t .sectors) (λ i j. portion (one - cell (importCoefficients t) i) (at (t .sectors) (inputCoefficients t) i j)) ≡ domesticCoefficients t
   unfolding domesticCoefficients domesticCoefficient
   domestic-is some =
@@ -129,11 +129,19 @@ module _ (t : Table) where
       ap₂ portion (ap (λ (m : ℕ). one - m) (import-cell (k / n) (place-row n k some h)))
       (place-cell n (inputCoefficients t) k ∙ input-cell k h))
 
-  pub demand-is : tabulate (t .sectors) (λ i. portion (one - cell (importCoefficients t) i) (cell (t .finalDemand) i) + cell (t .exports) i) ≡ domesticDemands t
+  demand-is : tabulate (t .sectors) (λ i. portion (one - cell (importCoefficients t) i) (cell (t .finalDemand) i) + cell (t .exports) i) ≡ domesticDemands t
   unfolding domesticDemands domesticDemand
   demand-is =
       tabulate-cong (t .sectors)
       (λ i h. ap (λ (m : ℕ). portion (one - m) (cell (t .finalDemand) i) + cell (t .exports) i) (import-cell i h))
+
+pub domestic-from : (t : Table) {a m : List ℕ} → 1 ≤ t .sectors → a ≡ inputCoefficients t → m ≡ importCoefficients t
+    → matrix (t .sectors) (λ i j. portion (one - cell m i) (at (t .sectors) a i j)) ≡ domesticCoefficients t
+domestic-from t some e f = rw (e, f) (domestic-is t some)
+
+pub demand-from : (t : Table) {m : List ℕ} → m ≡ importCoefficients t
+    → tabulate (t .sectors) (λ i. portion (one - cell m i) (cell (t .finalDemand) i) + cell (t .exports) i) ≡ domesticDemands t
+demand-from t e = rw e (demand-is t)
 
 -- so the cells of a and of m are within one
 pub inputs-small : (t : Table) → 1 ≤ t .sectors → TableAmounts t → Balanced t → (k : ℕ) → k < t .sectors * t .sectors → cell (inputCoefficients t) k ≤ one

@@ -1,12 +1,10 @@
 -- What the checks of a table say of it, for helpers that run after them.
 use mathlib.Core.Path.{_≡_}
-use mathlib.Core.List.{List}
 use Prim.Native.Nat.{ℕ, _+_, _*_, _≤_, _<_}
 use lib.ListN.{length}
 use Rattle.model.specs.Numbers.{sum, cell, transposed}
 use Rattle.model.specs.Table.{Table, flow, need}
-use Rattle.model.specs.Checks.{Report, amountLimit, output}
-use Rattle.model.specs.Calls.{inputCoefficients, valueAddedCoefficients, importCoefficients, domesticCoefficients, domesticDemands}
+use Rattle.model.specs.Checks.{amountLimit}
 
 -- questions 1 and 2 pass
 pub record TableSizes (t : Table) : Type 0 where
@@ -33,11 +31,3 @@ pub record Balanced (t : Table) : Type 0 where
   pub columns : (j : ℕ) → j < t .sectors → sum (t .sectors) (transposed (flow t) j) + cell (t .valueAdded) j ≡ cell (t .production) j
   pub rows : (i : ℕ) → i < t .sectors → need t i + cell (t .exports) i ≡ cell (t .production) i + cell (t .imports) i
   pub covered : (i : ℕ) → i < t .sectors → cell (t .imports) i ≤ need t i
-
--- the outputs of sheets from a table, lent slices of these lengths, in a call that is reported as r
-pub record SheetOutputs (t : Table) (r : Report) (la lv lm ld lf : ℕ) (a v m d f : List ℕ) : Type 0 where
-  pub inputs : a ≡ output r la (inputCoefficients t)
-  pub values : v ≡ output r lv (valueAddedCoefficients t)
-  pub imports : m ≡ output r lm (importCoefficients t)
-  pub domestic : d ≡ output r ld (domesticCoefficients t)
-  pub demands : f ≡ output r lf (domesticDemands t)

@@ -1,12 +1,10 @@
 -- `implied::check_production` meets its contract: each way out has its law. Assumes nothing.
 use mathlib.Core.List.{List, [], _∷_}
 use mathlib.Core.Path.{_∙_}
-use Prim.Native.Nat.{_*_}
 use borrow.Author.Needs.{needs}
 use lib.ListN.{length}
 use Rattle.model.specs.Checks.{Check, productionTotal}
 use Rattle.model.specs.Calls.{matrixChecks}
-use Rattle.theory.proofs.Lists.{all-equal}
 use Rattle.theory.proofs.Verdicts.{answered-pass, answered-on, answered-stop, first-length}
 use Rattle.implied.proofs.check_production.Statement.{statement}
 use Rattle.implied.proofs.check_production.Tie as tie

@@ -1,7 +1,6 @@
 -- `induced::check_induced` meets its contract: each way out has its law. Assumes nothing.
 use mathlib.Core.List.{List, [], _∷_, _++_}
 use mathlib.Core.Path.{_≡_, _∙_}
-use Prim.Native.Nat.{ℕ}
 use borrow.Author.Needs.{needs}
 use lib.ListN.{length}
 use Rattle.model.specs.Checks.{Check, report, verdict, size, lengths, inducedAmounts, productionTotal}

@@ -1,12 +1,11 @@
 -- `rounds::check_start` meets its contract: each way out has its law. Assumes nothing.
 use mathlib.Core.List.{List, [], _∷_}
 use mathlib.Core.Path.{_∙_}
-use Prim.Native.Nat.{ℕ, _*_}
+use Prim.Native.Nat.{ℕ}
 use borrow.Author.Needs.{needs}
 use lib.ListN.{length}
 use Rattle.model.specs.Checks.{Check, bounded}
 use Rattle.model.specs.Calls.{matrixChecks}
-use Rattle.theory.proofs.Lists.{all-equal}
 use Rattle.theory.proofs.Verdicts.{answered-on, answered-stop}
 use Rattle.rounds.proofs.check_start.Statement.{statement}
 use Rattle.rounds.proofs.check_start.Tie as tie
