@@ -1,0 +1,37 @@
+-- The digits of an amount, and how many they are. Assumes nothing.
+use mathlib.Core.Bool.{Bool, true, false}
+use mathlib.Core.Path.{_≡_, refl, sym, ap, _∙_}
+use mathlib.Core.List.{List, [], _∷_, _++_}
+use Prim.Native.Nat.{ℕ, zero, suc, _+_, _/_, _%_, _^_, _≤_, _<_}
+use native.Mathlib.Nat.{not-suc-le-zero, pow-suc}
+use native.Mathlib.Omega.{arith}
+use borrow.Author.Tests.{lt-ltb, le-ltb, ltb-true, ltb-false}
+use lib.Dec.{ltb}
+use lib.ListN.{length, length-append}
+use Rattle.model.specs.Text.{digits, decimal}
+
+-- a single digit
+pub decimal-one : (n : ℕ) → n < 10 → decimal n ≡ (48 + n % 10) ∷ []
+unfolding digits
+decimal-one n h =
+    let e : n ≡ n % 10 = omega arith in
+    rw (digits, lt-ltb n 10 h) (ap (λ (d : ℕ). (48 + d) ∷ []) e)
+
+-- digits to spare change nothing
+spare : (f g n : ℕ) → n < f → n < g → digits f n ≡ digits g n
+unfolding digits
+spare zero g n h k = absurd (not-suc-le-zero h)
+spare (suc f) zero n h k = absurd (not-suc-le-zero k)
+spare (suc f) (suc g) n h k = split (ltb n 10) refl (spare f g (n / 10))
+  where
+    split : (t : Bool) → ltb n 10 ≡ t → (n / 10 < f → n / 10 < g → digits f (n / 10) ≡ digits g (n / 10)) → digits (suc f) n ≡ digits (suc g) n
+    split true e more = rw (digits, e)
+    split false e more =
+        let big : 10 ≤ n = ltb-false n 10 e in
+        rw (digits, e) (ap (λ (l : List ℕ). l ++ ((48 + n % 10) ∷ [])) (more (omega arith) (omega arith)))
+
+-- several digits
+pub decimal-more : (n : ℕ) → 10 ≤ n → decimal n ≡ decimal (n / 10) ++ ((48 + n % 10) ∷ [])
+unfolding digits
+decimal-more n h =
+    rw (digits, le-ltb n 10 h) (ap (λ (l : List ℕ). l ++ ((48 + n % 10) ∷ [])) (spare n (suc (n / 10)) (n / 10) (omega arith) (omega arith)))
