@@ -1,11 +1,12 @@
 -- Texts written piece by piece into a list of bytes. Assumes nothing.
 use mathlib.Core.Path.{_≡_, refl, sym, ap, _∙_}
 use mathlib.Core.List.{List, [], _∷_, _++_}
-use Prim.Native.Nat.{ℕ, suc, _+_, _≤_}
+use Prim.Native.Nat.{ℕ, suc, _+_, _≤_, _<_}
 use native.Mathlib.Nat.{add-zero, add-suc, suc-add}
+use native.Mathlib.Numerals.{add-one}
 use native.Mathlib.Omega.{arith}
-use lib.ListN.{length, set, length-append}
-use lib.Seq.{sets, length-sets}
+use lib.ListN.{length, set, getD, drop, length-append}
+use lib.Seq.{sets, length-sets, drop-cons}
 
 sets-append : (a b l : List ℕ) (i : ℕ) → sets l i (a ++ b) ≡ sets (sets l i a) (i + length a) b
 sets-append [] b l i = ap (λ (k : ℕ). sets l k b) (sym (add-zero i))
@@ -48,3 +49,7 @@ room h p = omega (arith, p .place, kept p)
 
 pub room-first : {text l m left : List ℕ} {i j : ℕ} (a b : List ℕ) → left ≡ a ++ b → i + length text ≤ length l → Begun text i l m j left → j + length a ≤ length m
 room-first a b e h p = omega (arith, ap length e, length-append a b, room h p)
+
+-- the first of what remains of a list from i on
+pub drop-first : (l : List ℕ) (i : ℕ) → i < length l → drop i l ≡ getD l i 0 ∷ drop (i + 1) l
+drop-first l i h = drop-cons l i 0 h ∙ ap (λ (n : ℕ). getD l i 0 ∷ drop n l) (sym (add-one i))

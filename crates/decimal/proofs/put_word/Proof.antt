@@ -6,8 +6,8 @@ use native.Mathlib.Nat.{add-zero}
 use native.Mathlib.Numerals.{add-one}
 use native.Mathlib.Omega.{arith}
 use lib.ListN.{length, getD, drop, length-set, drop-of-length-le}
-use lib.Seq.{drop-cons}
-use Rattle.decimal.proofs.Stores.{Begun, begin, go-on, done, kept}
+use lib.Seq.{sets}
+use Rattle.decimal.proofs.Stores.{Begun, begin, go-on, done, kept, drop-first}
 use Rattle.decimal.proofs.put_word.Statement.{statement}
 use Rattle.decimal.proofs.put_word.Tie as tie
 
@@ -17,49 +17,29 @@ Inv-loop word at out₀ i₀ i-end out i = (i ≤ length word) × (i-end ≡ len
 abbrev μ-loop : tie.MeasureT-loop
 μ-loop word at out₀ i₀ i-end out i = length word - i
 
-loop-holds : tie.Need-loop-holds Inv-loop μ-loop
-loop-holds c = ?
-
-shared-slice-read-out : tie.Need-shared-slice-read-out Inv-loop μ-loop
-shared-slice-read-out c = omega arith
-
-add-out : tie.Need-add-out Inv-loop μ-loop
-add-out c = ?
-
-slice-write-out : tie.Need-slice-write-out Inv-loop μ-loop
-slice-write-out c = ?
-
-add-i : tie.Need-add-i Inv-loop μ-loop
-add-i c = omega arith
-
-loop-less : tie.Need-loop-less Inv-loop μ-loop
-loop-less c = omega arith
+abbrev entry : tie.At-loop Inv-loop μ-loop → tie.Start Inv-loop μ-loop
+entry p = p .before
 
 loop-again : tie.Need-loop-again Inv-loop μ-loop
-loop-again c = ?
-
-add-result : tie.Need-add-result Inv-loop μ-loop
-add-result c = ?
-
-same-length : tie.Need-same-length Inv-loop μ-loop
-same-length c = ?
+loop-again c =
+    let l = c .before .before .loop in
+    let word = entry (c .before .before) .args .word .now in (
+      omega arith,
+      refl,
+      go-on (getD word (l .i) 0 ∷ []) (drop (l .i + 1) word) (drop-first word (l .i) (c .before .loop-test .taken)) (l .inv .2) (omega arith, refl),
+    )
 
 returns : tie.Need-returns Inv-loop μ-loop
-returns c = ?
+returns c =
+    let l = c .before .loop in
+    let a = entry (c .before) .args in
+    let e = drop-of-length-le (a .word .now) {i = l .i} (omega arith) in
+    done (l .inv .2) (omega (arith, ap length e), sym (ap (λ (x : List ℕ). sets (l .out) (a .at + l .i) x) e))
 
 pub put-word-spec : {M : Type 1} → statement M
 put-word-spec =
     tie.close
     (tie.spec
-    Inv-loop
-    μ-loop
-    loop-holds
-    shared-slice-read-out
-    add-out
-    slice-write-out
-    add-i
-    loop-less
-    loop-again
-    add-result
-    same-length
-    returns)
+    Inv-loop μ-loop (λ c. (omega arith, refl, go-on [] (c .args .word .now) refl (begin (c .args .word .now) (c .args .at) (c .args .out .now)) (refl, refl))) (λ c. omega arith) (λ c. omega arith)
+    (λ c. omega (arith, kept (c .before .before .loop .inv .2))) (λ c. omega arith) (λ c. omega arith) loop-again
+    (λ c. omega arith) (λ c. kept (c .before .loop .inv .2)) returns)
