@@ -1,26 +1,17 @@
+-- `decimal::put_field` meets its contract. Assumes nothing.
+use mathlib.Core.Path.{_≡_, refl}
+use mathlib.Core.List.{[], _∷_}
 use borrow.Author.Needs.{needs}
+use Rattle.model.specs.Text.{decimal}
+use Rattle.decimal.proofs.Stores.{begin, go-on, done}
 use Rattle.decimal.proofs.put_field.Statement.{statement}
 use Rattle.decimal.proofs.put_field.Tie as tie
-use Rattle.decimal.proofs.put_field.Reads as reads
-use Rattle.decimal.proofs.put_field.Lts as lts
-use Rattle.decimal.proofs.put_byte.Reads as put-byte-reads
-use Rattle.decimal.proofs.put_decimal.Reads as put-decimal-reads
 
--- src/lib.rt:51:9
-put-byte-requires : tie.Need-put-byte-requires
-put-byte-requires c κs = search needs
-
--- src/lib.rt:52:5
-put-decimal-requires : tie.Need-put-decimal-requires
-put-decimal-requires c κs = search needs
-
--- src/lib.rt:46:1
-same-length : tie.Need-same-length
-same-length c = search needs
-
--- src/lib.rt:46:1
 returns : tie.Need-returns
-returns c = ?
+returns c =
+    let a = c .before .before .before .before .before .before .before .before .before .args in
+    let d = decimal (a .amount) in
+    done (go-on (32 ∷ []) d refl (begin (32 ∷ d) (a .at) (a .out .now)) (c .before .before .before .before .before .before .put-byte .ensures)) (c .before .before .put-decimal .ensures)
 
 pub put-field-spec : {M : Type 1} → statement M
-put-field-spec = tie.close (tie.spec put-byte-requires put-decimal-requires same-length returns)
+put-field-spec = tie.close (tie.spec (λ c κs. search needs) (λ c κs. search needs) (λ c. search needs) returns)

@@ -1,69 +1,73 @@
+-- `decimal::put_rest` meets its contract: the fields from i on are left. Assumes nothing.
+use mathlib.Core.Path.{_≡_, refl, sym, ap, _∙_}
+use mathlib.Core.List.{List, [], _∷_, _++_, map}
+use Prim.Native.Nat.{ℕ, _+_, _-_, _≤_, _<_}
+use native.Mathlib.Nat.{add-zero}
+use native.Mathlib.Omega.{arith}
+use borrow.Author.Needs.{needs}
+use lib.ListN.{length, getD, drop, drop-of-length-le}
+use Rattle.model.specs.Text.{decimal, rest}
+use Rattle.decimal.proofs.Stores.{Begun, begin, go-on, done, kept, room, room-first, drop-first}
 use Rattle.decimal.proofs.put_rest.Statement.{statement}
 use Rattle.decimal.proofs.put_rest.Tie as tie
-use Rattle.decimal.proofs.put_rest.Reads as reads
-use Rattle.decimal.proofs.put_rest.Lts as lts
-use Rattle.decimal.proofs.put_byte.Reads as put-byte-reads
-use Rattle.decimal.proofs.put_field.Reads as put-field-reads
+
+-- the rest of the line from field i on
+abbrev from : List ℕ → ℕ → List ℕ
+from cells i = rest (map decimal (drop i cells))
 
 abbrev Inv-loop : tie.InvT-loop
-Inv-loop cells at out₀ next₀ i₀ i-end out next i = ?
+Inv-loop cells at out₀ next₀ i₀ i-end out next i =
+    (i ≤ length cells) × (i-end ≡ length cells) × Begun (from cells 0) at out₀ out next (from cells i)
 
 abbrev μ-loop : tie.MeasureT-loop
-μ-loop cells at out₀ next₀ i₀ i-end out next i = ?
+μ-loop cells at out₀ next₀ i₀ i-end out next i = length cells - i
 
--- src/lib.rt:62:5
-loop-holds : tie.Need-loop-holds Inv-loop μ-loop
-loop-holds c = ?
+abbrev entry : tie.At-loop Inv-loop μ-loop → tie.Start Inv-loop μ-loop
+entry p = p .before .before .before
 
--- src/lib.rt:63:26
-mul-put-field : tie.Need-mul-put-field Inv-loop μ-loop
-mul-put-field c = ?
+-- one field, and the fields after it
+split : (cells : List ℕ) (i : ℕ) → i < length cells → from cells i ≡ (32 ∷ decimal (getD cells i 0)) ++ from cells (i + 1)
+split cells i h = ap (λ (x : List ℕ). rest (map decimal x)) (drop-first cells i h)
 
--- src/lib.rt:63:26
-shared-slice-read-put-field : tie.Need-shared-slice-read-put-field Inv-loop μ-loop
-shared-slice-read-put-field c = ?
+-- after the last field byte 10 is left
+ended :
+    (c : tie.After-loop Inv-loop μ-loop) →
+    let a = entry (c .before) .args in
+    Begun (from (a .cells .now) 0) (a .at) (a .out .now) (c .before .loop .out) (c .before .loop .next) (10 ∷ [])
+ended c =
+    let l = c .before .loop in
+    let e = drop-of-length-le (entry (c .before) .args .cells .now) {i = l .i} (omega arith) in
+    go-on [] (10 ∷ []) (ap (λ (x : List ℕ). rest (map decimal x)) e) (l .inv .2) (sym (add-zero (l .next)), refl)
 
--- src/lib.rt:63:9
 put-field-requires : tie.Need-put-field-requires Inv-loop μ-loop
-put-field-requires c κs = ?
+put-field-requires c κs =
+    let p = c .before .before .before in
+    let cells = entry p .args .cells .now in
+    let i = p .loop .i in
+    room-first (32 ∷ decimal (getD cells i 0)) (from cells (i + 1)) (split cells i (c .before .before .loop-test .taken)) (entry p .pre) (p .loop .inv .2)
 
--- src/lib.rt:62:9
-add-i : tie.Need-add-i Inv-loop μ-loop
-add-i c = ?
-
--- src/lib.rt:62:5
-loop-less : tie.Need-loop-less Inv-loop μ-loop
-loop-less c = ?
-
--- src/lib.rt:62:5
 loop-again : tie.Need-loop-again Inv-loop μ-loop
-loop-again c = ?
+loop-again c =
+    let p = c .before .before .before .before .before .before in
+    let cells = entry p .args .cells .now in
+    let i = p .loop .i in (
+      omega arith,
+      refl,
+      go-on (32 ∷ decimal (getD cells i 0)) (from cells (i + 1)) (split cells i (c .before .before .before .before .before .loop-test .taken)) (p .loop .inv .2) (c .before .before .put-field .ensures),
+    )
 
--- src/lib.rt:65:5
 put-byte-requires : tie.Need-put-byte-requires Inv-loop μ-loop
-put-byte-requires c κs = ?
+put-byte-requires c κs = room (entry (c .before .before) .pre) (ended (c .before))
 
--- src/lib.rt:56:1
 same-length : tie.Need-same-length Inv-loop μ-loop
-same-length c = ?
+same-length c = c .before .before .put-byte .kept .1 .1 .0 ∙ kept (ended (c .before .before .before .before))
 
--- src/lib.rt:56:1
 returns : tie.Need-returns Inv-loop μ-loop
-returns c = ?
+returns c = done (ended (c .before .before .before .before)) (c .before .before .put-byte .ensures)
 
 pub put-rest-spec : {M : Type 1} → statement M
 put-rest-spec =
     tie.close
     (tie.spec
-    Inv-loop
-    μ-loop
-    loop-holds
-    mul-put-field
-    shared-slice-read-put-field
-    put-field-requires
-    add-i
-    loop-less
-    loop-again
-    put-byte-requires
-    same-length
-    returns)
+    Inv-loop μ-loop (λ c. (omega arith, refl, begin (from (c .before .before .args .cells .now) 0) (c .before .before .args .at) (c .before .before .args .out .now))) (λ c. omega arith) (λ c. omega arith) put-field-requires (λ c. omega arith)
+    (λ c. omega arith) loop-again put-byte-requires same-length returns)
