@@ -2,6 +2,7 @@
 use mathlib.Core.Path.{_≡_, refl, sym, ap, _∙_}
 use mathlib.Core.List.{List, [], _∷_, _++_, map}
 use Prim.Native.Nat.{ℕ, _+_, _-_, _≤_, _<_}
+use native.Mathlib.Nat.{add-zero}
 use native.Mathlib.Omega.{arith}
 use borrow.Author.Needs.{needs}
 use lib.ListN.{length, getD, take, drop, length-drop, drop-of-length-le}
@@ -20,38 +21,45 @@ parts cells h =
     ap (λ (x : List ℕ). line (map decimal x)) (drop-first cells 0 h)
     ∙ ap (λ (x : List ℕ). decimal (getD cells 0 0) ++ rest (map decimal x)) (sym (take-all (length cells - 1) (drop 1 cells) (omega (arith, length-drop 1 cells))))
 
--- before the first byte is written
-abbrev whole : (s : tie.Start) → let a = s .args in Begun (line (map decimal (a .cells .now))) (a .at) (a .out .now) (a .out .now) (a .at) (line (map decimal (a .cells .now)))
-whole s = begin (line (map decimal (s .args .cells .now))) (s .args .at) (s .args .out .now)
+abbrev whole : tie.Start → List ℕ
+whole s = line (map decimal (s .args .cells .now))
 
 -- of no cells byte 10 alone is written
-empty :
-    (c : tie.Then1) →
-    let a = c .before .before .before .args in
-    Begun (line (map decimal (a .cells .now))) (a .at) (a .out .now) (a .out .now) (a .at) (10 ∷ [])
-empty c = ?
+none : (c : tie.Then1) → whole (c .before .before .before) ≡ 10 ∷ []
+none c = ap (λ (x : List ℕ). line (map decimal x)) (drop-of-length-le (c .before .before .before .args .cells .now) {i = 0} (omega arith))
+
+some : (c : tie.Else1) → let s = c .before .before .before in whole s ≡ decimal (getD (s .args .cells .now) 0 0) ++ later (s .args .cells .now)
+some c = parts (c .before .before .before .args .cells .now) (omega (arith, c .if1 .left))
 
 -- after the first cell the others are left
 others :
     (c : tie.After-put-decimal) →
-    let a = c .before .before .before .before .before .before .args in
-    Begun (line (map decimal (a .cells .now))) (a .at) (a .out .now) (c .put-decimal .last .1 .1 .0) (c .put-decimal .result) (later (a .cells .now))
-others c = ?
+    let s = c .before .before .before .before .before .before in
+    Begun (whole s) (s .args .at) (s .args .out .now) (c .put-decimal .last .1 .1 .0) (c .put-decimal .result) (later (s .args .cells .now))
+others c =
+    let s = c .before .before .before .before .before .before in
+    go-on (decimal (getD (s .args .cells .now) 0 0)) (later (s .args .cells .now)) (some (c .before .before .before)) (begin (whole s) (s .args .at) (s .args .out .now)) (c .put-decimal .ensures)
 
 put-byte-requires : tie.Need-put-byte-requires
-put-byte-requires c κs = ?
+put-byte-requires c κs = omega (arith, ap length (none (c .before)), c .before .before .before .before .pre)
 
 returns : tie.Need-returns
-returns c = ?
+returns c =
+    let s = c .before .before .before .before .before .before .before in
+    done (go-on [] (10 ∷ []) (none (c .before .before .before .before)) (begin (whole s) (s .args .at) (s .args .out .now)) (sym (add-zero (s .args .at)), refl)) (c .before .before .put-byte .ensures)
 
 put-decimal-requires : tie.Need-put-decimal-requires
-put-decimal-requires c κs = ?
+put-decimal-requires c κs =
+    let s = c .before .before .before .before .before in
+    room-first (decimal (getD (s .args .cells .now) 0 0)) (later (s .args .cells .now)) (some (c .before .before)) (s .pre) (begin (whole s) (s .args .at) (s .args .out .now))
 
 put-rest-requires : tie.Need-put-rest-requires
-put-rest-requires c κs = ?
+put-rest-requires c κs =
+    let p = c .before .before .before .before in
+    room (p .before .before .before .before .before .before .pre) (others p)
 
 returns-2 : tie.Need-returns-2
-returns-2 c = ?
+returns-2 c = done (others (c .before .before .before .before .before .before .before)) (c .before .before .put-rest .ensures)
 
 pub put-fields-spec : {M : Type 1} → statement M
 put-fields-spec =
