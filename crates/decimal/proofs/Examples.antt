@@ -1,7 +1,6 @@
 -- Document 01's examples of amounts and lines. The checker computes them. Assumes nothing.
 use mathlib.Core.Path.{_≡_, refl}
-use mathlib.Core.List.{List, [], _∷_, map}
-use Prim.Native.Nat.{ℕ}
+use mathlib.Core.List.{[], _∷_, map}
 use Rattle.model.specs.Text.{digits, decimal, line}
 
 amounts :

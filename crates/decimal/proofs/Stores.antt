@@ -37,6 +37,10 @@ go-on {text} {l} {m} {o} {left} {i} {j} {k} a b e p w = record {
       ∙ p .bytes;
 }
 
+-- the same bytes left, told otherwise
+pub leaves : {text l m left : List ℕ} {i j : ℕ} (b : List ℕ) → left ≡ b → Begun text i l m j left → Begun text i l m j b
+leaves {j = j} b e p = go-on [] b e p (sym (add-zero j), refl)
+
 pub done : {text l m o left : List ℕ} {i j k : ℕ} → Begun text i l m j left → Wrote left j m o k → Wrote text i l o k
 done p w = (w .0 ∙ p .place, w .1 ∙ p .bytes)
 

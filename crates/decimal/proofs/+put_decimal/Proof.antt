@@ -1,5 +1,5 @@
 -- `decimal::put_decimal` meets its contract: where the arms meet, the last digit is left. It calls itself on a smaller amount. Assumes nothing.
-use mathlib.Core.Path.{_≡_, refl, sym, ap, _∙_}
+use mathlib.Core.Path.{refl, sym, _∙_}
 use mathlib.Core.List.{List, [], _∷_}
 use mathlib.Core.Logic.{⊎-elim}
 use Prim.Native.Nat.{ℕ, _+_, _/_, _%_, _<_, _≤_}

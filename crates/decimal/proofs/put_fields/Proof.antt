@@ -1,14 +1,13 @@
 -- `decimal::put_fields` meets its contract. Assumes nothing.
-use mathlib.Core.Path.{_≡_, refl, sym, ap, _∙_}
+use mathlib.Core.Path.{_≡_, sym, ap, _∙_}
 use mathlib.Core.List.{List, [], _∷_, _++_, map}
-use Prim.Native.Nat.{ℕ, _+_, _-_, _≤_, _<_}
-use native.Mathlib.Nat.{add-zero}
+use Prim.Native.Nat.{ℕ, _-_, _<_}
 use native.Mathlib.Omega.{arith}
 use borrow.Author.Needs.{needs}
 use lib.ListN.{length, getD, take, drop, length-drop, drop-of-length-le}
 use lib.Seq.{take-all}
 use Rattle.model.specs.Text.{decimal, rest, line}
-use Rattle.decimal.proofs.Stores.{Begun, begin, go-on, done, room, room-first, drop-first}
+use Rattle.decimal.proofs.Stores.{Begun, begin, go-on, leaves, done, room, room-first, drop-first}
 use Rattle.decimal.proofs.put_fields.Statement.{statement}
 use Rattle.decimal.proofs.put_fields.Tie as tie
 
@@ -24,6 +23,9 @@ parts cells h =
 abbrev whole : tie.Start → List ℕ
 whole s = line (map decimal (s .args .cells .now))
 
+start : (s : tie.Start) → Begun (whole s) (s .args .at) (s .args .out .now) (s .args .out .now) (s .args .at) (whole s)
+start s = begin (whole s) (s .args .at) (s .args .out .now)
+
 -- of no cells byte 10 alone is written
 none : (c : tie.Then1) → whole (c .before .before .before) ≡ 10 ∷ []
 none c = ap (λ (x : List ℕ). line (map decimal x)) (drop-of-length-le (c .before .before .before .args .cells .now) {i = 0} (omega arith))
@@ -38,20 +40,22 @@ others :
     Begun (whole s) (s .args .at) (s .args .out .now) (c .put-decimal .last .1 .1 .0) (c .put-decimal .result) (later (s .args .cells .now))
 others c =
     let s = c .before .before .before .before .before .before in
-    go-on (decimal (getD (s .args .cells .now) 0 0)) (later (s .args .cells .now)) (some (c .before .before .before)) (begin (whole s) (s .args .at) (s .args .out .now)) (c .put-decimal .ensures)
+    go-on (decimal (getD (s .args .cells .now) 0 0)) (later (s .args .cells .now)) (some (c .before .before .before)) (start s) (c .put-decimal .ensures)
 
 put-byte-requires : tie.Need-put-byte-requires
-put-byte-requires c κs = omega (arith, ap length (none (c .before)), c .before .before .before .before .pre)
+put-byte-requires c κs =
+    let s = c .before .before .before .before in
+    room (s .pre) (leaves (10 ∷ []) (none (c .before)) (start s))
 
 returns : tie.Need-returns
 returns c =
     let s = c .before .before .before .before .before .before .before in
-    done (go-on [] (10 ∷ []) (none (c .before .before .before .before)) (begin (whole s) (s .args .at) (s .args .out .now)) (sym (add-zero (s .args .at)), refl)) (c .before .before .put-byte .ensures)
+    done (leaves (10 ∷ []) (none (c .before .before .before .before)) (start s)) (c .before .before .put-byte .ensures)
 
 put-decimal-requires : tie.Need-put-decimal-requires
 put-decimal-requires c κs =
     let s = c .before .before .before .before .before in
-    room-first (decimal (getD (s .args .cells .now) 0 0)) (later (s .args .cells .now)) (some (c .before .before)) (s .pre) (begin (whole s) (s .args .at) (s .args .out .now))
+    room-first (decimal (getD (s .args .cells .now) 0 0)) (later (s .args .cells .now)) (some (c .before .before)) (s .pre) (start s)
 
 put-rest-requires : tie.Need-put-rest-requires
 put-rest-requires c κs =

@@ -1,13 +1,11 @@
 -- `decimal::put_rest` meets its contract: the fields from i on are left. Assumes nothing.
-use mathlib.Core.Path.{_≡_, refl, sym, ap, _∙_}
+use mathlib.Core.Path.{_≡_, refl, ap, _∙_}
 use mathlib.Core.List.{List, [], _∷_, _++_, map}
 use Prim.Native.Nat.{ℕ, _+_, _-_, _≤_, _<_}
-use native.Mathlib.Nat.{add-zero}
 use native.Mathlib.Omega.{arith}
-use borrow.Author.Needs.{needs}
 use lib.ListN.{length, getD, drop, drop-of-length-le}
 use Rattle.model.specs.Text.{decimal, rest}
-use Rattle.decimal.proofs.Stores.{Begun, begin, go-on, done, kept, room, room-first, drop-first}
+use Rattle.decimal.proofs.Stores.{Begun, begin, go-on, leaves, done, kept, room, room-first, drop-first}
 use Rattle.decimal.proofs.put_rest.Statement.{statement}
 use Rattle.decimal.proofs.put_rest.Tie as tie
 
@@ -37,7 +35,7 @@ ended :
 ended c =
     let l = c .before .loop in
     let e = drop-of-length-le (entry (c .before) .args .cells .now) {i = l .i} (omega arith) in
-    go-on [] (10 ∷ []) (ap (λ (x : List ℕ). rest (map decimal x)) e) (l .inv .2) (sym (add-zero (l .next)), refl)
+    leaves (10 ∷ []) (ap (λ (x : List ℕ). rest (map decimal x)) e) (l .inv .2)
 
 put-field-requires : tie.Need-put-field-requires Inv-loop μ-loop
 put-field-requires c κs =
