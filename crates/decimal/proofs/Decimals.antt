@@ -1,14 +1,15 @@
 -- The digits of an amount, and how many they are. Assumes nothing.
 use mathlib.Core.Bool.{Bool, true, false}
 use mathlib.Core.Path.{_≡_, refl, ap, _∙_}
-use mathlib.Core.List.{List, [], _∷_, _++_}
-use Prim.Native.Nat.{ℕ, zero, suc, _+_, _/_, _%_, _^_, _≤_, _<_}
-use native.Mathlib.Nat.{not-suc-le-zero, pow-suc}
+use mathlib.Core.List.{List, [], _∷_, _++_, map}
+use Prim.Native.Nat.{ℕ, zero, suc, _+_, _*_, _/_, _%_, _^_, _≤_, _<_, suc-le-suc}
+use native.Mathlib.Nat.{not-suc-le-zero, zero-lt-suc, pow-suc, mul-suc}
 use native.Mathlib.Omega.{arith}
 use borrow.Author.Tests.{lt-ltb, le-ltb, ltb-true, ltb-false}
 use lib.Dec.{ltb}
 use lib.ListN.{length, length-append}
-use Rattle.model.specs.Text.{digits, decimal}
+use Rattle.model.specs.Numbers.{cell}
+use Rattle.model.specs.Text.{digits, decimal, rest, line}
 
 -- a single digit
 pub decimal-one : (n : ℕ) → n < 10 → decimal n ≡ (48 + n % 10) ∷ []
@@ -39,7 +40,7 @@ decimal-more n h =
 length-more : (n : ℕ) → 10 ≤ n → length (decimal n) ≡ length (decimal (n / 10)) + 1
 length-more n h = ap length (decimal-more n h) ∙ length-append (decimal (n / 10)) ((48 + n % 10) ∷ [])
 
--- at least one byte, and at most k for an amount below 10 ^ k
+-- at least one byte, and at most k + 1 for an amount below 10 ^ (k + 1)
 pub decimal-some : (n : ℕ) → 1 ≤ length (decimal n)
 decimal-some n = split (ltb n 10) refl
   where
@@ -59,3 +60,17 @@ decimal-fits (suc k) n h = split (ltb n 10) refl (decimal-fits k (n / 10))
 
 pub decimal-twenty : (n : ℕ) → n < 2 ^ 64 → length (decimal n) ≤ 20
 decimal-twenty n h = decimal-fits 19 n (omega arith)
+
+-- a line of amounts below 10 ^ (k + 1) takes at most k + 2 bytes a field
+rest-fits : (k : ℕ) (xs : List ℕ)
+    → ((i : ℕ) → i < length xs → cell xs i < 10 ^ suc k) → length (rest (map decimal xs)) ≤ (k + 2) * length xs + 1
+rest-fits k [] h = omega arith
+rest-fits k (x ∷ xs) h =
+    let here = decimal-fits k x (h 0 (zero-lt-suc (length xs))) in
+    let more = rest-fits k xs (λ i lt. h (suc i) (suc-le-suc lt)) in
+    omega (arith, length-append (decimal x) (rest (map decimal xs)), mul-suc (k + 2) (length xs))
+
+pub line-fits : (k : ℕ) (xs : List ℕ) → 1 ≤ length xs
+    → ((i : ℕ) → i < length xs → cell xs i < 10 ^ suc k) → length (line (map decimal xs)) ≤ (k + 2) * length xs
+line-fits k [] p h = absurd (not-suc-le-zero p)
+line-fits k (x ∷ xs) p h = omega (arith, rest-fits k (x ∷ xs) h)

@@ -1,4 +1,5 @@
--- Texts written piece by piece into a list of bytes. Assumes nothing.
+-- Texts written piece by piece into a list of bytes: `begin`, then `go-on` with what each call ensures, then `done`; `room` and `room-first`
+-- give what each call requires. Assumes nothing.
 use mathlib.Core.Path.{_≡_, refl, sym, ap, _∙_}
 use mathlib.Core.List.{List, [], _∷_, _++_}
 use Prim.Native.Nat.{ℕ, suc, _+_, _≤_, _<_}
@@ -26,7 +27,8 @@ pub record Begun (text : List ℕ) (i : ℕ) (l m : List ℕ) (j : ℕ) (left : 
 pub begin : (text : List ℕ) (i : ℕ) (l : List ℕ) → Begun text i l l i text
 begin text i l = record { place = refl; bytes = refl }
 
-pub go-on : {text l m o left : List ℕ} {i j k : ℕ} (a b : List ℕ) → left ≡ a ++ b → Begun text i l m j left → Wrote a j m o k → Begun text i l o k b
+pub go-on : {text l m o left : List ℕ} {i j k : ℕ} (a b : List ℕ) → left ≡ a ++ b
+    → Begun text i l m j left → Wrote a j m o k → Begun text i l o k b
 go-on {text} {l} {m} {o} {left} {i} {j} {k} a b e p w = record {
   place = omega (arith, ap length e, length-append a b, p .place, w .0);
   bytes =
@@ -51,7 +53,8 @@ kept {text} {l} {m} {left} {i} {j} p = sym (length-sets m j left) ∙ ap length 
 pub room : {text l m left : List ℕ} {i j : ℕ} → i + length text ≤ length l → Begun text i l m j left → j + length left ≤ length m
 room h p = omega (arith, p .place, kept p)
 
-pub room-first : {text l m left : List ℕ} {i j : ℕ} (a b : List ℕ) → left ≡ a ++ b → i + length text ≤ length l → Begun text i l m j left → j + length a ≤ length m
+pub room-first : {text l m left : List ℕ} {i j : ℕ} (a b : List ℕ) → left ≡ a ++ b
+    → i + length text ≤ length l → Begun text i l m j left → j + length a ≤ length m
 room-first a b e h p = omega (arith, ap length e, length-append a b, room h p)
 
 -- the first of what remains of a list from i on

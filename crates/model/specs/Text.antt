@@ -4,12 +4,12 @@ use mathlib.Core.List.{List, [], _∷_, _++_}
 use Prim.Native.Nat.{ℕ, zero, suc, _+_, _/_, _%_}
 use lib.Dec.{ltb}
 
--- "Amounts are written in decimal, most significant digit first, without leading zeros": at most so many digits
+-- "Amounts are written in decimal, most significant digit first, without leading zeros": the digits of n, at most `most` of them
 unfoldable pub digits : ℕ → ℕ → List ℕ
 digits zero n = []
 digits (suc most) n = elim (ltb n 10) [ true ↦ (48 + n) ∷ [] | false ↦ digits most (n / 10) ++ ((48 + n % 10) ∷ []) ]
 
--- "zero is `0`": byte 48. No amount has more digits than it counts, and one
+-- "zero is `0`": byte 48 is the digit 0. An amount n has at most n + 1 digits
 abbrev pub decimal : ℕ → List ℕ
 decimal n = digits (suc n) n
 

@@ -39,20 +39,25 @@ ended c =
 
 put-field-requires : tie.Need-put-field-requires Inv-loop μ-loop
 put-field-requires c κs =
-    let p = c .before .before .before in
-    let cells = entry p .args .cells .now in
-    let i = p .loop .i in
-    room-first (32 ∷ decimal (getD cells i 0)) (from cells (i + 1)) (split cells i (c .before .before .loop-test .taken)) (entry p .pre) (p .loop .inv .2)
+    let t = c .before .before in
+    let cells = entry (t .before) .args .cells .now in
+    let i = t .before .loop .i in
+    room-first (32 ∷ decimal (getD cells i 0)) (from cells (i + 1)) (split cells i (t .loop-test .taken)) (entry (t .before) .pre) (t .before .loop .inv .2)
 
 loop-again : tie.Need-loop-again Inv-loop μ-loop
 loop-again c =
-    let p = c .before .before .before .before .before .before in
-    let cells = entry p .args .cells .now in
-    let i = p .loop .i in (
+    let t = c .before .before .before .before .before in
+    let cells = entry (t .before) .args .cells .now in
+    let i = t .before .loop .i in (
       omega arith,
       refl,
-      go-on (32 ∷ decimal (getD cells i 0)) (from cells (i + 1)) (split cells i (c .before .before .before .before .before .loop-test .taken)) (p .loop .inv .2) (c .before .before .put-field .ensures),
+      go-on (32 ∷ decimal (getD cells i 0)) (from cells (i + 1)) (split cells i (t .loop-test .taken)) (t .before .loop .inv .2) (c .before .before .put-field .ensures),
     )
+
+loop-holds : tie.Need-loop-holds Inv-loop μ-loop
+loop-holds c =
+    let a = c .before .before .args in
+    (omega arith, refl, begin (from (a .cells .now) 0) (a .at) (a .out .now))
 
 put-byte-requires : tie.Need-put-byte-requires Inv-loop μ-loop
 put-byte-requires c κs = room (entry (c .before .before) .pre) (ended (c .before))
@@ -67,5 +72,5 @@ pub put-rest-spec : {M : Type 1} → statement M
 put-rest-spec =
     tie.close
     (tie.spec
-    Inv-loop μ-loop (λ c. (omega arith, refl, begin (from (c .before .before .args .cells .now) 0) (c .before .before .args .at) (c .before .before .args .out .now))) (λ c. omega arith) (λ c. omega arith) put-field-requires (λ c. omega arith)
+    Inv-loop μ-loop loop-holds (λ c. omega arith) (λ c. omega arith) put-field-requires (λ c. omega arith)
     (λ c. omega arith) loop-again put-byte-requires same-length returns)

@@ -18,6 +18,11 @@ abbrev μ-loop : tie.MeasureT-loop
 abbrev entry : tie.At-loop Inv-loop μ-loop → tie.Start Inv-loop μ-loop
 entry p = p .before
 
+loop-holds : tie.Need-loop-holds Inv-loop μ-loop
+loop-holds c =
+    let word = c .args .word .now in
+    (omega arith, refl, go-on [] word refl (begin word (c .args .at) (c .args .out .now)) (refl, refl))
+
 loop-again : tie.Need-loop-again Inv-loop μ-loop
 loop-again c =
     let l = c .before .before .loop in
@@ -38,6 +43,6 @@ pub put-word-spec : {M : Type 1} → statement M
 put-word-spec =
     tie.close
     (tie.spec
-    Inv-loop μ-loop (λ c. (omega arith, refl, go-on [] (c .args .word .now) refl (begin (c .args .word .now) (c .args .at) (c .args .out .now)) (refl, refl))) (λ c. omega arith) (λ c. omega arith)
+    Inv-loop μ-loop loop-holds (λ c. omega arith) (λ c. omega arith)
     (λ c. omega (arith, kept (c .before .before .loop .inv .2))) (λ c. omega arith) (λ c. omega arith) loop-again
     (λ c. omega arith) (λ c. kept (c .before .loop .inv .2)) returns)
