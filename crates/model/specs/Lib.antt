@@ -5,3 +5,4 @@ pub mod Rounds
 pub mod Checks
 pub mod Calls
 pub mod Promises
+pub mod Text

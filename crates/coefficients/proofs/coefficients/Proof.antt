@@ -105,8 +105,7 @@ finish-requires c κs =
     let n = start p .args .n in
     let A = passed p in
     let z = A .sizes in
-    let o = outputs-are p in
-    (
+    let o = outputs-are p in (
       (
         z .some,
         z .few,
@@ -137,8 +136,7 @@ returns-2 c =
     let n = start p .args .n in
     let e = r .finish .ensures in
     let R = report (r .finish .result) in
-    let d = domestic-from t (passed p .sizes .some) (inputs-are i) (imports-are i) in
-    (
+    let d = domestic-from t (passed p .sizes .some) (inputs-are i) (imports-are i) in (
       e .0 ∙ ap (λ (l : List ℕ). verdict (columnSums n (at n l) ∷ []) 0) d ∙ answered-on (asked q) (q .check-table .ensures) (last q) 0 (p .enum-told .given .1),
       (
         e .1 .0 ∙ ap₂ (output R) (filled i .fill-inputs .kept .1 .1 .1 .0) (inputs-are i),

@@ -33,8 +33,7 @@ returns : tie.Need-returns
 returns c =
     let k = c .before .before .before .before .before .before .before .before .before .before .before .before .before .before .before .before .before in
     let q = k .before .before in
-    let z = c .before .before .before .before .before .before .before .before .before .before .clear .ensures in
-    (
+    let z = c .before .before .before .before .before .before .before .before .before .before .clear .ensures in (
       sym (ap report (k .columns .given .1)) ∙ said q,
       (
         z .0,

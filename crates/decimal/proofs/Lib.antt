@@ -1,0 +1,4 @@
+-- Runs of stores, decimals, and the bytes they take.
+pub mod Stores
+pub mod Decimals
+pub mod Examples

@@ -1,0 +1,62 @@
+-- Texts written piece by piece into a list of bytes: `begin`, then `go-on` with what each call ensures, then `done`; `room` and `room-first`
+-- give what each call requires. Assumes nothing.
+use mathlib.Core.Path.{_≡_, refl, sym, ap, _∙_}
+use mathlib.Core.List.{List, [], _∷_, _++_}
+use Prim.Native.Nat.{ℕ, suc, _+_, _≤_, _<_}
+use native.Mathlib.Nat.{add-zero, add-suc, suc-add}
+use native.Mathlib.Numerals.{add-one}
+use native.Mathlib.Omega.{arith}
+use lib.ListN.{length, set, getD, drop, length-append}
+use lib.Seq.{sets, length-sets, drop-cons}
+
+sets-append : (a b l : List ℕ) (i : ℕ) → sets l i (a ++ b) ≡ sets (sets l i a) (i + length a) b
+sets-append [] b l i = ap (λ (k : ℕ). sets l k b) (sym (add-zero i))
+sets-append (x ∷ a) b l i =
+    sets-append a b (set l i x) (suc i)
+    ∙ ap (λ (k : ℕ). sets (sets (set l i x) (suc i) a) k b) (suc-add i (length a) ∙ sym (add-suc i (length a)))
+
+-- what this crate's functions ensure: they wrote the text at i into l, which then is m, and answer j
+abbrev pub Wrote : List ℕ → ℕ → List ℕ → List ℕ → ℕ → Type 0
+Wrote text i l m j = (j ≡ i + length text) × (m ≡ sets l i text)
+
+-- of a text to be written at i into l, the bytes `left` remain, to be written at j into m
+pub record Begun (text : List ℕ) (i : ℕ) (l m : List ℕ) (j : ℕ) (left : List ℕ) : Type 0 where
+  pub place : j + length left ≡ i + length text
+  pub bytes : sets m j left ≡ sets l i text
+
+pub begin : (text : List ℕ) (i : ℕ) (l : List ℕ) → Begun text i l l i text
+begin text i l = record { place = refl; bytes = refl }
+
+pub go-on : {text l m o left : List ℕ} {i j k : ℕ} (a b : List ℕ) → left ≡ a ++ b
+    → Begun text i l m j left → Wrote a j m o k → Begun text i l o k b
+go-on {text} {l} {m} {o} {left} {i} {j} {k} a b e p w = record {
+  place = omega (arith, ap length e, length-append a b, p .place, w .0);
+  bytes =
+      ap (λ (x : List ℕ). sets x k b) (w .1)
+      ∙ ap (λ (x : ℕ). sets (sets m j a) x b) (w .0)
+      ∙ sym (sets-append a b m j)
+      ∙ ap (λ (x : List ℕ). sets m j x) (sym e)
+      ∙ p .bytes;
+}
+
+-- the same bytes left, told otherwise
+pub leaves : {text l m left : List ℕ} {i j : ℕ} (b : List ℕ) → left ≡ b → Begun text i l m j left → Begun text i l m j b
+leaves {j = j} b e p = go-on [] b e p (sym (add-zero j), refl)
+
+pub done : {text l m o left : List ℕ} {i j k : ℕ} → Begun text i l m j left → Wrote left j m o k → Wrote text i l o k
+done p w = (w .0 ∙ p .place, w .1 ∙ p .bytes)
+
+pub kept : {text l m left : List ℕ} {i j : ℕ} → Begun text i l m j left → length m ≡ length l
+kept {text} {l} {m} {left} {i} {j} p = sym (length-sets m j left) ∙ ap length (p .bytes) ∙ length-sets l i text
+
+-- where the text fits, so does what is left of it
+pub room : {text l m left : List ℕ} {i j : ℕ} → i + length text ≤ length l → Begun text i l m j left → j + length left ≤ length m
+room h p = omega (arith, p .place, kept p)
+
+pub room-first : {text l m left : List ℕ} {i j : ℕ} (a b : List ℕ) → left ≡ a ++ b
+    → i + length text ≤ length l → Begun text i l m j left → j + length a ≤ length m
+room-first a b e h p = omega (arith, ap length e, length-append a b, room h p)
+
+-- the first of what remains of a list from i on
+pub drop-first : (l : List ℕ) (i : ℕ) → i < length l → drop i l ≡ getD l i 0 ∷ drop (i + 1) l
+drop-first l i h = drop-cons l i 0 h ∙ ap (λ (n : ℕ). getD l i 0 ∷ drop n l) (sym (add-one i))
