@@ -1,2 +1,3 @@
 -- The worked cases, which hold the definitions to the paper.
 pub mod Worked
+pub mod WorkedFile

@@ -5,4 +5,5 @@ pub mod Rounds
 pub mod Checks
 pub mod Calls
 pub mod Promises
+pub mod File
 pub mod Text

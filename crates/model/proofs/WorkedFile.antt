@@ -1,0 +1,68 @@
+-- Document 01, "The table file": the worked table's file of 91 bytes, and files that are refused, computed by the checker. Assumes nothing.
+use mathlib.Core.Path.{_≡_, refl}
+use mathlib.Core.List.{List, [], _∷_, map, reverse}
+use Prim.Native.Nat.{ℕ}
+use lib.ListN.{length, take}
+use Rattle.model.specs.File.{Entry, encode, fileOf, wholeAt, insideAt, entryAt, Reading, walk, reading, flowsOf, columnOf}
+
+abbrev named : ℕ → ℕ → ℕ → Entry
+named line position amount = record { line = line; position = position; amount = amount }
+
+-- the worked table, in ascending kind and cell
+abbrev entries : List Entry
+entries =
+    named 0 0 100 ∷ named 0 1 400 ∷ named 1 0 300 ∷ named 1 1 600
+    ∷ named 40 0 500 ∷ named 40 1 900
+    ∷ named 41 0 250 ∷ named 41 1 560
+    ∷ named 42 0 250 ∷ named 42 1 360
+    ∷ named 43 0 600 ∷ named 43 1 1000
+    ∷ named 44 0 1000 ∷ named 44 1 2000
+    ∷ []
+
+pub worked-file :
+    (length (fileOf 2 entries) ≡ 91)
+    × (reading (fileOf 2 entries) ≡ Reading.table 2 (reverse entries))
+    × _≡_ {A = List ℕ} (take 5 (flowsOf 2 (reverse entries))) (100 ∷ 400 ∷ 300 ∷ 600 ∷ 0 ∷ [])
+    × _≡_ {A = List ℕ} (take 3 (columnOf 44 (reverse entries))) (1000 ∷ 2000 ∷ 0 ∷ [])
+unfolding encode fileOf wholeAt insideAt entryAt walk reading
+worked-file = (refl, refl, refl, refl)
+
+-- a file, and what the paper says of it
+pub record Row : Type 0 where
+  pub file : List ℕ
+  pub stated : Reading
+
+infix 68 _⊳_
+abbrev _⊳_ : List ℕ → Reading → Row
+s ⊳ r = record { file = s; stated = r }
+
+unfoldable pub rows : List Row
+rows =
+    -- 15: the empty file; no end; a byte after the end
+    [] ⊳ Reading.refused 15 0
+    ∷ (1 ∷ 2 ∷ []) ⊳ Reading.refused 15 2
+    ∷ (1 ∷ 2 ∷ 8 ∷ 0 ∷ []) ⊳ Reading.refused 15 3
+    ∷ (1 ∷ 2 ∷ 8 ∷ []) ⊳ Reading.table 2 []
+    -- 11: no such kind; a body that is cut, whatever it is
+    ∷ (0 ∷ []) ⊳ Reading.refused 11 0
+    ∷ (1 ∷ []) ⊳ Reading.refused 11 0
+    ∷ (1 ∷ 2 ∷ 10 ∷ []) ⊳ Reading.refused 11 2
+    ∷ (1 ∷ 2 ∷ 1 ∷ []) ⊳ Reading.refused 11 2
+    ∷ (1 ∷ 2 ∷ 2 ∷ 9 ∷ 9 ∷ 0 ∷ 0 ∷ 0 ∷ []) ⊳ Reading.refused 11 2
+    -- 12: another kind first; n out of range; a second kind 1
+    ∷ (8 ∷ []) ⊳ Reading.refused 12 0
+    ∷ (1 ∷ 0 ∷ 8 ∷ []) ⊳ Reading.refused 12 0
+    ∷ (1 ∷ 41 ∷ 8 ∷ []) ⊳ Reading.refused 12 0
+    ∷ (1 ∷ 2 ∷ 1 ∷ 2 ∷ 8 ∷ []) ⊳ Reading.refused 12 2
+    -- 13: a sector byte of 0, or above n, in either place
+    ∷ (1 ∷ 2 ∷ 3 ∷ 0 ∷ 0 ∷ 0 ∷ 0 ∷ 5 ∷ 8 ∷ []) ⊳ Reading.refused 13 2
+    ∷ (1 ∷ 2 ∷ 9 ∷ 3 ∷ 0 ∷ 0 ∷ 0 ∷ 5 ∷ 8 ∷ []) ⊳ Reading.refused 13 2
+    ∷ (1 ∷ 2 ∷ 2 ∷ 1 ∷ 3 ∷ 0 ∷ 0 ∷ 0 ∷ 5 ∷ 8 ∷ []) ⊳ Reading.refused 13 2
+    -- 14: a cell named twice, also with 0; naming a 0 is allowed
+    ∷ (1 ∷ 2 ∷ 3 ∷ 1 ∷ 0 ∷ 0 ∷ 0 ∷ 0 ∷ 3 ∷ 1 ∷ 0 ∷ 0 ∷ 0 ∷ 0 ∷ 8 ∷ []) ⊳ Reading.refused 14 8
+    ∷ (1 ∷ 2 ∷ 3 ∷ 1 ∷ 0 ∷ 0 ∷ 0 ∷ 0 ∷ 8 ∷ []) ⊳ Reading.table 2 (named 40 0 0 ∷ [])
+    ∷ []
+
+pub refusals : map (λ (r : Row). reading (r .file)) rows ≡ map (λ (r : Row). r .stated) rows
+unfolding rows wholeAt insideAt entryAt walk reading
+refusals = refl

@@ -1,0 +1,116 @@
+-- Document 01, "The table file". A file is a list of bytes: a record for n, records for named cells in any order, and an end.
+use mathlib.Core.Bool.{Bool, true, false, _&&_, _||_, cond}
+use mathlib.Core.List.{List, [], _∷_, _++_}
+use Prim.Native.Nat.{ℕ, zero, suc, _+_, _*_, _-_, _/_, _%_}
+use lib.Dec.{eqb, leb, ltb}
+use lib.ListN.{length, set, replicate}
+use Rattle.model.specs.Numbers.{cell}
+
+-- A named cell. Lines 0 to 39 are the rows of x, with their columns for positions; lines 40 to 45 are F, E, M, V, X and the rises, with their sectors
+pub record Entry : Type 0 where
+  pub line : ℕ
+  pub position : ℕ
+  pub amount : ℕ
+
+-- ---- the format: a record and its bytes
+-- bytes of a record by its kind, the kind byte counted; 0 where there is no such kind
+abbrev pub recordLengths : List ℕ
+recordLengths = 0 ∷ 2 ∷ 7 ∷ 6 ∷ 6 ∷ 6 ∷ 6 ∷ 6 ∷ 1 ∷ 6 ∷ []
+
+-- the line of a column by its kind, and the kind of a column by its line from 40 on
+abbrev pub columnLines : List ℕ
+columnLines = 0 ∷ 0 ∷ 0 ∷ 40 ∷ 41 ∷ 42 ∷ 43 ∷ 44 ∷ 0 ∷ 45 ∷ []
+
+abbrev pub columnKinds : List ℕ
+columnKinds = 3 ∷ 4 ∷ 5 ∷ 6 ∷ 7 ∷ 9 ∷ []
+
+-- "amounts are 4 bytes, highest first"; "sector bytes run from 1"
+abbrev pub amountBytes : ℕ → List ℕ
+amountBytes a = (a / 16777216) ∷ (a / 65536 % 256) ∷ (a / 256 % 256) ∷ (a % 256) ∷ []
+
+unfoldable pub encode : Entry → List ℕ
+encode e =
+    cond (ltb (e .line) 40) (2 ∷ (e .line + 1) ∷ (e .position + 1) ∷ amountBytes (e .amount))
+    (cell columnKinds (e .line - 40) ∷ (e .position + 1) ∷ amountBytes (e .amount))
+
+abbrev pub encodeAll : List Entry → List ℕ
+encodeAll [] = []
+encodeAll (e ∷ es) = encode e ++ encodeAll es
+
+-- kind 1, the named cells, kind 8
+unfoldable pub fileOf : ℕ → List Entry → List ℕ
+fileOf n es = 1 ∷ n ∷ (encodeAll es ++ (8 ∷ []))
+
+-- ---- what stands at an offset of a file s
+module _ (s : List ℕ) (at : ℕ) where
+  abbrev pub kindAt : ℕ
+  kindAt = cell s at
+
+  abbrev pub isFlow : Bool
+  isFlow = eqb kindAt 2
+
+  abbrev pub nextAt : ℕ
+  nextAt = at + cell recordLengths kindAt
+
+  -- 11. the kind is 1 to 9, and the body is whole
+  unfoldable pub wholeAt : Bool
+  wholeAt = leb 1 (cell recordLengths kindAt) && leb nextAt (length s)
+
+  -- 13. every sector byte is from 1 to n
+  unfoldable pub insideAt : ℕ → Bool
+  insideAt n =
+      leb 1 (cell s (at + 1)) && leb (cell s (at + 1)) n
+      && cond isFlow (leb 1 (cell s (at + 2)) && leb (cell s (at + 2)) n) true
+
+  amountFrom : ℕ → ℕ
+  amountFrom k = ((cell s k * 256 + cell s (k + 1)) * 256 + cell s (k + 2)) * 256 + cell s (k + 3)
+
+  unfoldable pub entryAt : Entry
+  unfolding amountFrom
+  entryAt =
+      cond isFlow (record { line = cell s (at + 1) - 1; position = cell s (at + 2) - 1; amount = amountFrom (at + 3) })
+      (record { line = cell columnLines kindAt; position = cell s (at + 1) - 1; amount = amountFrom (at + 2) })
+
+-- 14. the cell was named before
+abbrev pub named : List Entry → Entry → Bool
+named [] e = false
+named (f ∷ es) e = eqb (f .line) (e .line) && eqb (f .position) (e .position) || named es e
+
+-- ---- the reader's walk
+-- what a file comes to: a refusal, or n and the named cells, the last one first
+pub data Reading : Type 0 where
+  refused : ℕ → ℕ → Reading
+  table : ℕ → List Entry → Reading
+
+-- from an offset after the first record, with the cells named so far. A record has at least one byte, so the file's length is steps enough
+unfoldable pub walk : ℕ → List ℕ → ℕ → List Entry → ℕ → Reading
+unfolding wholeAt insideAt entryAt
+walk zero s n es at = Reading.refused 15 (length s)
+walk (suc fuel) s n es at =
+    let later = walk fuel s n (entryAt s at ∷ es) (nextAt s at) in
+    let fresh = cond (named es (entryAt s at)) (Reading.refused 14 at) later in
+    let inside = cond (insideAt s at n) fresh (Reading.refused 13 at) in
+    let end = cond (eqb (at + 1) (length s)) (Reading.table n es) (Reading.refused 15 (at + 1)) in
+    let body = cond (eqb (kindAt s at) 8) end inside in
+    let first = cond (eqb (kindAt s at) 1) (Reading.refused 12 at) body in
+    let whole = cond (wholeAt s at) first (Reading.refused 11 at) in
+    cond (leb (length s) at) (Reading.refused 15 (length s)) whole
+
+-- 12. the first record is kind 1 with n from 1 to 40. The empty file gives 15 at 0
+unfoldable pub reading : List ℕ → Reading
+unfolding wholeAt walk
+reading s =
+    let n = cell s 1 in
+    let later = walk (length s) s n [] 2 in
+    let sized = cond (eqb (kindAt s 0) 1 && (leb 1 n && leb n 40)) later (Reading.refused 12 0) in
+    let whole = cond (wholeAt s 0) sized (Reading.refused 11 0) in
+    cond (eqb (length s) 0) (Reading.refused 15 0) whole
+
+-- ---- the cells that a reading names: "a cell not named is 0", "row i of x starts at cell i × n"
+abbrev pub flowsOf : ℕ → List Entry → List ℕ
+flowsOf n [] = replicate 1600 0
+flowsOf n (e ∷ es) = cond (ltb (e .line) 40) (set (flowsOf n es) (e .line * n + e .position) (e .amount)) (flowsOf n es)
+
+abbrev pub columnOf : ℕ → List Entry → List ℕ
+columnOf line [] = replicate 40 0
+columnOf line (e ∷ es) = cond (eqb (e .line) line) (set (columnOf line es) (e .position) (e .amount)) (columnOf line es)
