@@ -5,11 +5,11 @@ use Prim.Native.Nat.{ℕ}
 use lib.ListN.{length, take}
 use Rattle.model.specs.File.{Entry, encode, fileOf, wholeAt, insideAt, entryAt, Reading, walk, reading, flowsOf, columnOf}
 
-abbrev named : ℕ → ℕ → ℕ → Entry
+abbrev pub named : ℕ → ℕ → ℕ → Entry
 named line position amount = record { line = line; position = position; amount = amount }
 
 -- the worked table, in ascending kind and cell
-abbrev entries : List Entry
+abbrev pub entries : List Entry
 entries =
     named 0 0 100 ∷ named 0 1 400 ∷ named 1 0 300 ∷ named 1 1 600
     ∷ named 40 0 500 ∷ named 40 1 900

@@ -7,3 +7,4 @@ pub mod Calls
 pub mod Promises
 pub mod File
 pub mod Text
+pub mod Page
