@@ -13,4 +13,5 @@ pub mod Answers
 pub mod Tables
 pub mod Promises
 pub mod Prepared
+pub mod Encoding
 pub mod Balances
