@@ -11,7 +11,8 @@ use lib.Dec.{eqb, leb, ltb}
 use lib.ListN.{length}
 use Rattle.model.specs.Numbers.{first, cell}
 use Rattle.model.specs.File.{Entry, recordLengths, columnLines, columnKinds, amountBytes, encode, amountFrom, kindAt, isFlow, nextAt, wholeAt, insideAt, entryAt, named, Reading, walk}
-use Rattle.theory.proofs.Lists.{first-before}
+use Rattle.theory.specs.Files.{Fits}
+use Rattle.theory.proofs.Lists.{first-before, and-true}
 
 -- two neighbouring bytes of an amount make one number
 joined : (a k : ℕ) → a / (k * 256) * 256 + a / k % 256 ≡ a / k
@@ -56,11 +57,6 @@ stands-after n b s at e _ h =
 stands-at : (n : ℕ) (before s : List ℕ) (e : Entry) (size : ℕ) → Stands n s 0 e size → Stands n (before ++ s) (length before) e size
 stands-at n [] s e size h = h
 stands-at n (b ∷ before) s e size h = stands-after n b (before ++ s) (length before) e size (stands-at n before s e size h)
-
--- e names a cell of a table of n sectors
-pub record Fits (n : ℕ) (e : Entry) : Type 0 where
-  pub line-in : e .line < cond (ltb (e .line) 40) n 46
-  pub position-in : e .position < n
 
 abbrev made : ℕ → ℕ → ℕ → Entry
 made l p a = record { line = l; position = p; amount = a }
@@ -128,3 +124,20 @@ stands n e f before rest = stands-at n before (encode e ++ rest) e (length (enco
         let same : 40 + k ≡ e .line = omega arith in
         let at-40 = column-stands n k (e .position) (e .amount) rest (omega arith) (f .position-in) in
         rw h (subst (λ (l : ℕ). Stands n (cell columnKinds k ∷ (e .position + 1) ∷ (amountBytes (e .amount) ++ rest)) 0 (made l (e .position) (e .amount)) 6) same at-40)
+
+-- it stands before the end of the file
+stands-inside : (n : ℕ) (s : List ℕ) (at : ℕ) (e : Entry) (size : ℕ) → Stands n s at e size → leb (length s) at ≡ false
+unfolding wholeAt
+stands-inside n s at e size h =
+    let k = cell recordLengths (kindAt s at) in
+    let parts = and-true (leb 1 k) (leb (at + k) (length s)) (h .whole) in
+    let some = leb-true 1 k (parts .0) in
+    let ends = leb-true (at + k) (length s) (parts .1) in
+    lt-leb (length s) at (omega arith)
+
+-- the reader's step over it
+pub step : (n : ℕ) (s : List ℕ) (at : ℕ) (e : Entry) (size fuel : ℕ) (es : List Entry) → Stands n s at e size
+    → walk (suc fuel) s n es at ≡ cond (named es e) (Reading.refused 14 at) (walk fuel s n (e ∷ es) (at + size))
+unfolding walk
+step n s at e size fuel es h =
+    rw (stands-inside n s at e size h, h .whole, h .later, h .going, h .inside, h .entry, h .sized) refl

@@ -14,4 +14,5 @@ pub mod Tables
 pub mod Promises
 pub mod Prepared
 pub mod Encoding
+pub mod Files
 pub mod Balances

@@ -1,3 +1,4 @@
 -- What contracts cite beside the definitions of `model`.
 pub mod Bounds
 pub mod Tables
+pub mod Files
