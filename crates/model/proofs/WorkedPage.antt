@@ -1,6 +1,6 @@
 -- Document 01, "The printed sheet": the page of the worked table's 91 bytes, and pages of refusals, computed by the checker. Assumes nothing.
 use mathlib.Core.Path.{_≡_, refl}
-use mathlib.Core.List.{List, [], _∷_, _++_, map}
+use mathlib.Core.List.{List, [], _∷_, map}
 use Prim.Native.Nat.{ℕ}
 use Rattle.model.specs.Table.{absorption, inputCoefficient, valueAddedCoefficient, importCoefficient, domesticCoefficient, domesticDemand}
 use Rattle.model.specs.Rounds.{intermediate, round, rounds, changes, settling, settled, inducedValueAdded, inducedImports}

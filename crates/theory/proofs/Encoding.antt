@@ -2,7 +2,7 @@
 use mathlib.Core.Bool.{Bool, true, false, _&&_, cond, false≢true}
 use mathlib.Core.List.{List, [], _∷_, _++_}
 use mathlib.Core.Path.{_≡_, refl, sym, ap, subst, _∙_}
-use Prim.Native.Nat.{ℕ, zero, suc, _+_, _*_, _-_, _/_, _%_, _≤_, _<_}
+use Prim.Native.Nat.{ℕ, suc, _+_, _*_, _-_, _/_, _%_, _<_}
 use native.Mathlib.Nat.{div-add-mod', div-div-eq-div-mul, suc-add, add-sub-cancel}
 use native.Mathlib.Omega.{arith}
 use native.Mathlib.Numerals.{unary-clauses}
@@ -10,7 +10,7 @@ use borrow.Author.Tests.{lt-leb, le-leb, leb-true, leb-false, eqb-true, ltb-fals
 use lib.Dec.{eqb, leb, ltb}
 use lib.ListN.{length}
 use Rattle.model.specs.Numbers.{first, cell}
-use Rattle.model.specs.File.{Entry, recordLengths, columnLines, columnKinds, amountBytes, encode, amountFrom, kindAt, isFlow, nextAt, wholeAt, insideAt, entryAt, named, Reading, walk}
+use Rattle.model.specs.File.{Entry, recordLengths, columnLines, columnKinds, amountBytes, encode, amountFrom, kindAt, wholeAt, insideAt, entryAt, named, Reading, walk}
 use Rattle.theory.specs.Files.{Fits}
 use Rattle.theory.proofs.Lists.{first-before, and-true}
 

@@ -6,11 +6,11 @@ use Prim.Native.Nat.{ℕ, zero, suc, _+_, _≤_, _<_}
 use native.Mathlib.Nat.{not-suc-le-zero, zero-lt-suc, le-refl}
 use native.Mathlib.Omega.{arith}
 use borrow.Author.Tests.{lt-leb, le-leb, eq-eqb, ne-eqb}
-use lib.Dec.{eqb, leb, ltb}
+use lib.Dec.{ltb}
 use lib.ListN.{length, length-append}
 use Rattle.model.specs.Numbers.{cell}
-use Rattle.model.specs.File.{Entry, encode, encodeAll, fileOf, kindAt, wholeAt, Reading, walk, reading}
-use Rattle.theory.specs.Files.{Fits, Fresh}
+use Rattle.model.specs.File.{Entry, encode, encodeAll, fileOf, wholeAt, Reading, walk, reading}
+use Rattle.theory.specs.Files.{Fresh}
 use Rattle.theory.proofs.Encoding.{stands, step}
 
 kind-last : (before : List ℕ) (b : ℕ) → cell (before ++ (b ∷ [])) (length before) ≡ b
