@@ -15,4 +15,5 @@ pub mod Promises
 pub mod Prepared
 pub mod Encoding
 pub mod Files
+pub mod Lengths
 pub mod Balances
