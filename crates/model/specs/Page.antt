@@ -74,7 +74,7 @@ tablePage t =
     (line headings ++ (sectors ++ line (roundsWord ∷ decimal (settling .rounds) ∷ [])))))
 
 -- and of a file
-abbrev readingPage : Reading → List ℕ
+abbrev pub readingPage : Reading → List ℕ
 readingPage (Reading.refused number place) = refusalLine number place
 readingPage (Reading.table n es) = tablePage (tableRead n es)
 

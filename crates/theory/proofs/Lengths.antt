@@ -5,12 +5,12 @@ use mathlib.Core.Path.{_≡_, refl, sym, ap, subst, _∙_}
 use Prim.Native.Nat.{ℕ, zero, suc, _+_, _*_, _-_, _≤_, _<_}
 use native.Mathlib.Nat.{not-suc-le-zero, le-refl, mul-le-mul-left, mul-add, mul-one}
 use native.Mathlib.Omega.{arith}
-use borrow.Author.Tests.{ltb-true, ltb-false, lt-ltb, le-ltb, leb-true, leb-false, eqb-true, eq-eqb, ne-eqb}
+use borrow.Author.Tests.{ltb-true, ltb-false, lt-ltb, le-ltb, leb-true, eqb-true, eq-eqb, ne-eqb}
 use lib.Dec.{eqb, leb, ltb}
 use lib.ListN.{length, List·getD-eq-default}
-use Rattle.model.specs.Numbers.{sum, first, cell}
+use Rattle.model.specs.Numbers.{sum, cell}
 use Rattle.model.specs.File.{Entry, recordLengths, columnLines, kindAt, isFlow, nextAt, wholeAt, insideAt, entryAt, named, Reading, walk, reading}
-use Rattle.theory.proofs.Sums.{sum-mono, sum-const}
+use Rattle.theory.proofs.Sums.{sum-mono}
 use Rattle.theory.proofs.Lists.{first-before, and-true}
 
 -- a sum with one larger cell
@@ -31,23 +31,23 @@ sum-lift (suc n) {f} {g} i d h le at-i = go (ltb i n) refl (λ l. sum-lift n {f 
         omega arith
 
 -- ---- the bytes that the named cells take
-abbrev bit : Bool → ℕ
+abbrev pub bit : Bool → ℕ
 bit true = 1
 bit false = 0
 
-abbrev place : ℕ → ℕ → Entry
+abbrev pub place : ℕ → ℕ → Entry
 place l p = record { line = l; position = p; amount = 0 }
 
 abbrev is : Entry → ℕ → ℕ → Bool
 is e l p = eqb (e .line) l && eqb (e .position) p
 
-abbrev lineBytes : ℕ → ℕ
+abbrev pub lineBytes : ℕ → ℕ
 lineBytes l = cond (ltb l 40) 7 6
 
-abbrev count : List Entry → ℕ → ℕ
+abbrev pub count : List Entry → ℕ → ℕ
 count es l = sum 40 (λ p. bit (named es (place l p)))
 
-weight : List Entry → ℕ
+pub weight : List Entry → ℕ
 weight es = sum 46 (λ l. lineBytes l * count es l)
 
 bit-most : (b : Bool) → bit b ≤ 1
@@ -57,7 +57,7 @@ bit-most false = omega arith
 count-most : (es : List Entry) (l : ℕ) → count es l ≤ sum 40 (λ _. 1)
 count-most es l = sum-mono 40 (λ p _. bit-most (named es (place l p)))
 
-weight-most : (es : List Entry) → weight es ≤ sum 46 (λ l. lineBytes l * 40)
+pub weight-most : (es : List Entry) → weight es ≤ sum 46 (λ l. lineBytes l * 40)
 unfolding weight
 weight-most es = sum-mono 46 (λ l _. mul-le-mul-left (lineBytes l) (count-most es l))
 
@@ -121,7 +121,7 @@ or-false a b e t = sym (ap (λ (x : Bool). x || b) e) ∙ t
 kinds : (k : ℕ) → k < 10 → other k || columnKind k ≡ true
 kinds k h = first-before 10 (λ i. other i || columnKind i) k h
 
-no-kind : (k : ℕ) → 10 ≤ k → cell recordLengths k ≡ 0
+pub no-kind : (k : ℕ) → 10 ≤ k → cell recordLengths k ≡ 0
 no-kind k h = List·getD-eq-default recordLengths 0 h
 
 column-kind : (k : ℕ) → leb 1 (cell recordLengths k) ≡ true → eqb k 1 ≡ false → eqb k 2 ≡ false → eqb k 8 ≡ false → columnKind k ≡ true
@@ -143,10 +143,10 @@ column-kind k body no-1 no-2 no-8 = go (ltb k 10) refl
         let more = some in
         absurd (omega arith)
 
-record Taken (s : List ℕ) (at : ℕ) : Type 0 where
-  bytes : lineBytes (entryAt s at .line) ≡ cell recordLengths (kindAt s at)
-  line-low : entryAt s at .line < 46
-  position-low : entryAt s at .position < 40
+pub record Taken (s : List ℕ) (at : ℕ) : Type 0 where
+  pub bytes : lineBytes (entryAt s at .line) ≡ cell recordLengths (kindAt s at)
+  pub line-low : entryAt s at .line < 46
+  pub position-low : entryAt s at .position < 40
 
 -- a sector byte from 1 to n, less 1, is a sector below 40
 sector-low : (n b : ℕ) → n ≤ 40 → leb 1 b && leb b n ≡ true → b - 1 < 40
@@ -159,7 +159,7 @@ sector-low n b most e =
 below-46 : (i : ℕ) → i < 40 → i < 46
 below-46 i h = omega arith
 
-taken : (s : List ℕ) (at n : ℕ) → n ≤ 40 → wholeAt s at ≡ true → eqb (kindAt s at) 1 ≡ false → eqb (kindAt s at) 8 ≡ false → insideAt s at n ≡ true → Taken s at
+pub taken : (s : List ℕ) (at n : ℕ) → n ≤ 40 → wholeAt s at ≡ true → eqb (kindAt s at) 1 ≡ false → eqb (kindAt s at) 8 ≡ false → insideAt s at n ≡ true → Taken s at
 unfolding wholeAt insideAt entryAt
 taken s at n most whole no-1 no-8 inside = go (isFlow s at) refl
   where
@@ -193,7 +193,7 @@ either : {R : Type 0} (b : Bool) (x y : Reading) → accepted (cond b x y) ≡ t
 either true x y e p q = p e
 either false x y e p q = q refl e
 
-offset-on : (s : List ℕ) (es : List Entry) (at : ℕ) → Taken s at → named es (entryAt s at) ≡ false → at ≤ 2 + weight es → nextAt s at ≤ 2 + weight (entryAt s at ∷ es)
+pub offset-on : (s : List ℕ) (es : List Entry) (at : ℕ) → Taken s at → named es (entryAt s at) ≡ false → at ≤ 2 + weight es → nextAt s at ≤ 2 + weight (entryAt s at ∷ es)
 offset-on s es at t fresh h =
     let more = weight-more (entryAt s at) es fresh (t .line-low) (t .position-low) in
     let same = t .bytes in

@@ -16,4 +16,5 @@ pub mod Prepared
 pub mod Encoding
 pub mod Files
 pub mod Lengths
+pub mod Prefixes
 pub mod Balances
