@@ -42,6 +42,9 @@ unfoldable pub fileOf : ℕ → List Entry → List ℕ
 fileOf n es = 1 ∷ n ∷ (encodeAll es ++ (8 ∷ []))
 
 -- ---- what stands at an offset of a file s
+unfoldable pub amountFrom : List ℕ → ℕ → ℕ
+amountFrom s k = ((cell s k * 256 + cell s (k + 1)) * 256 + cell s (k + 2)) * 256 + cell s (k + 3)
+
 module _ (s : List ℕ) (at : ℕ) where
   abbrev pub kindAt : ℕ
   kindAt = cell s at
@@ -62,14 +65,11 @@ module _ (s : List ℕ) (at : ℕ) where
       leb 1 (cell s (at + 1)) && leb (cell s (at + 1)) n
       && cond isFlow (leb 1 (cell s (at + 2)) && leb (cell s (at + 2)) n) true
 
-  amountFrom : ℕ → ℕ
-  amountFrom k = ((cell s k * 256 + cell s (k + 1)) * 256 + cell s (k + 2)) * 256 + cell s (k + 3)
-
   unfoldable pub entryAt : Entry
   unfolding amountFrom
   entryAt =
-      cond isFlow (record { line = cell s (at + 1) - 1; position = cell s (at + 2) - 1; amount = amountFrom (at + 3) })
-      (record { line = cell columnLines kindAt; position = cell s (at + 1) - 1; amount = amountFrom (at + 2) })
+      cond isFlow (record { line = cell s (at + 1) - 1; position = cell s (at + 2) - 1; amount = amountFrom s (at + 3) })
+      (record { line = cell columnLines kindAt; position = cell s (at + 1) - 1; amount = amountFrom s (at + 2) })
 
 -- 14. the cell was named before
 abbrev pub named : List Entry → Entry → Bool
