@@ -1,0 +1,60 @@
+-- The tests and the fields of a record, case by case as the code asks them. Assumes nothing.
+use mathlib.Core.Bool.{Bool, true, false, _&&_, cond}
+use mathlib.Core.List.{List}
+use mathlib.Core.Path.{_≡_, refl, sym, ap, _∙_}
+use Prim.Native.Nat.{ℕ, _+_, _-_, _≤_, _<_}
+use native.Mathlib.Omega.{arith}
+use borrow.Author.Tests.{lt-leb, le-leb, leb-true, leb-false, eq-eqb, ne-eqb}
+use lib.Dec.{leb}
+use lib.ListN.{length}
+use Rattle.model.specs.Numbers.{cell}
+use Rattle.model.specs.File.{Entry, recordLengths, columnLines, kindAt, isFlow, nextAt, wholeAt, insideAt, amountFrom, entryAt}
+
+-- a sector byte from 1 to n
+abbrev pub sector : ℕ → ℕ → Bool
+sector n b = leb 1 b && leb b n
+
+module _ (s : List ℕ) (at : ℕ) where
+  -- the rest of question 13, once the first sector byte is inside
+  abbrev second : ℕ → Bool
+  second n = cond (isFlow s at) (sector n (cell s (at + 2))) true
+
+  pub inside-by : (n : ℕ) (b : Bool) → sector n (cell s (at + 1)) ≡ b → insideAt s at n ≡ (b && second n)
+  unfolding insideAt
+  inside-by n b e = ap (λ (t : Bool). t && second n) e
+
+  pub inside-flow : (n : ℕ) → sector n (cell s (at + 1)) ≡ true → kindAt s at ≡ 2 → insideAt s at n ≡ sector n (cell s (at + 2))
+  inside-flow n e k = inside-by n true e ∙ ap (λ (t : Bool). cond t (sector n (cell s (at + 2))) true) (eq-eqb (kindAt s at) 2 k)
+
+  pub inside-column : (n : ℕ) → sector n (cell s (at + 1)) ≡ true → (kindAt s at ≡ 2 → ⊥) → insideAt s at n ≡ true
+  inside-column n e k = inside-by n true e ∙ ap (λ (t : Bool). cond t (sector n (cell s (at + 2))) true) (ne-eqb (kindAt s at) 2 k)
+
+  -- the cell that a record names
+  abbrev flow : Entry
+  flow = record { line = cell s (at + 1) - 1; position = cell s (at + 2) - 1; amount = amountFrom s (at + 3) }
+
+  abbrev column : Entry
+  column = record { line = cell columnLines (kindAt s at); position = cell s (at + 1) - 1; amount = amountFrom s (at + 2) }
+
+  pub entry-flow : kindAt s at ≡ 2 → flow ≡ entryAt s at
+  unfolding entryAt
+  entry-flow k = sym (ap (λ (t : Bool). cond t flow column) (eq-eqb (kindAt s at) 2 k))
+
+  pub entry-column : (kindAt s at ≡ 2 → ⊥) → column ≡ entryAt s at
+  unfolding entryAt
+  entry-column k = sym (ap (λ (t : Bool). cond t flow column) (ne-eqb (kindAt s at) 2 k))
+
+  -- question 11, asked of the bytes that are left
+  pub whole-none : (size : ℕ) → size ≡ cell recordLengths (kindAt s at) → size < 1 → wholeAt s at ≡ false
+  unfolding wholeAt
+  whole-none size e h = ap (λ (t : Bool). t && leb (nextAt s at) (length s)) (lt-leb 1 (cell recordLengths (kindAt s at)) (omega arith))
+
+  pub whole-some : (size : ℕ) → size ≡ cell recordLengths (kindAt s at) → 1 ≤ size → at < length s → leb size (length s - at) ≡ wholeAt s at
+  unfolding wholeAt
+  whole-some size e l h =
+      left (leb size (length s - at)) refl
+      ∙ sym (ap (λ (t : Bool). t && leb (nextAt s at) (length s)) (le-leb 1 (cell recordLengths (kindAt s at)) (omega arith)))
+    where
+      left : (b : Bool) → leb size (length s - at) ≡ b → leb size (length s - at) ≡ leb (nextAt s at) (length s)
+      left true q = q ∙ sym (le-leb (nextAt s at) (length s) (let z = leb-true size (length s - at) q in omega arith))
+      left false q = q ∙ sym (lt-leb (nextAt s at) (length s) (let z = leb-false size (length s - at) q in omega arith))

@@ -1,0 +1,13 @@
+-- The marks of named cells: one 64-bit word for each line, one bit for each position.
+use mathlib.Core.Bool.{Bool}
+use mathlib.Core.List.{List}
+use Prim.Native.Nat.{ℕ, _/_, _%_, _^_}
+use lib.Dec.{eqb}
+use Rattle.model.specs.Numbers.{cell}
+
+-- the bit of a word at a place
+abbrev pub bit : ℕ → ℕ → ℕ
+bit w k = w / 2 ^ k % 2
+
+unfoldable pub marked : List ℕ → ℕ → ℕ → Bool
+marked marks line position = eqb (bit (cell marks line) position) 1
