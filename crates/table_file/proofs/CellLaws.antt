@@ -1,5 +1,5 @@
 -- A store into the reader's cells is a store into the part that it falls in, and into no other. Assumes nothing.
-use mathlib.Core.Bool.{Bool, true, false, cond}
+use mathlib.Core.Bool.{Bool, cond}
 use mathlib.Core.List.{List, [], _∷_}
 use mathlib.Core.Logic.{_⊎_, inl, inr}
 use mathlib.Core.Path.{_≡_, refl, sym, ap, _∙_}
@@ -8,10 +8,9 @@ use native.Mathlib.Decide.{decLt, ℕ-discrete}
 use native.Mathlib.Nat.{mul-le-mul, zero-add, suc-add}
 use native.Mathlib.Omega.{arith}
 use borrow.Author.Tests.{lt-ltb, le-ltb, eq-eqb, ne-eqb}
-use lib.Dec.{ltb, eqb}
 use lib.ListN.{length, set, take, drop, replicate, length-set, length-replicate}
 use lib.Seq.{take-set-lt, take-set-le, drop-set-lt, drop-set-add}
-use Rattle.model.specs.File.{Entry, Reading, flowsOf, columnOf, flowsRead, columnRead}
+use Rattle.model.specs.File.{Entry, Reading, flowsOf, columnOf}
 use Rattle.table_file.specs.Reader.{Held, Within}
 
 -- a row starts at most 1,560 cells in

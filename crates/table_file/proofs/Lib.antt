@@ -2,3 +2,4 @@ pub mod WalkLaws
 pub mod NameLaws
 pub mod CellLaws
 pub mod Loops
+pub mod Delivery

@@ -1,16 +1,16 @@
 -- A whole record that names a cell, and is inside, names a cell that the table has. Assumes nothing.
 use mathlib.Core.Bool.{Bool, true, false, false≢true}
-use mathlib.Core.List.{List, []}
+use mathlib.Core.List.{List}
 use mathlib.Core.Path.{_≡_, refl, sym, ap, _∙_, subst}
-use Prim.Native.Nat.{ℕ, zero, suc, _+_, _-_, _≤_, _<_}
+use Prim.Native.Nat.{ℕ, zero, suc, _+_, _≤_, _<_}
 use native.Mathlib.Decide.{ℕ-discrete}
 use native.Mathlib.Nat.{not-suc-le-zero}
 use native.Mathlib.Omega.{arith}
-use borrow.Author.Tests.{leb-true, eq-eqb, eqb-true}
+use borrow.Author.Tests.{leb-true, eqb-true}
 use lib.Dec.{leb, lit<, lit≤}
 use lib.ListN.{length}
 use Rattle.model.specs.Numbers.{cell}
-use Rattle.model.specs.File.{Entry, recordLengths, columnLines, kindAt, isFlow, nextAt, wholeAt, insideAt, entryAt}
+use Rattle.model.specs.File.{recordLengths, columnLines, kindAt, nextAt, wholeAt, insideAt, entryAt}
 use Rattle.theory.proofs.Lists.{and-true}
 use Rattle.records.specs.Bodies.{Body, Sectors}
 use Rattle.records.proofs.RecordLaws.{sector, inside-by, inside-flow, entry-flow, entry-column}

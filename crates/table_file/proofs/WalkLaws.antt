@@ -1,11 +1,10 @@
 -- The step that the walk takes at a record, by facts on its bytes: one law for each way out. Assumes nothing.
-use mathlib.Core.Bool.{Bool, true, false, _&&_, cond}
+use mathlib.Core.Bool.{true, false}
 use mathlib.Core.List.{List, [], _∷_}
-use mathlib.Core.Path.{_≡_, refl, sym, ap, _∙_}
+use mathlib.Core.Path.{_≡_, refl, sym}
 use Prim.Native.Nat.{ℕ, zero, suc, pred, _+_, _≤_, _<_}
 use native.Mathlib.Omega.{arith}
 use borrow.Author.Tests.{lt-leb, le-leb, eq-eqb, ne-eqb}
-use lib.Dec.{leb, eqb}
 use lib.ListN.{length}
 use Rattle.model.specs.Numbers.{cell}
 use Rattle.model.specs.File.{Entry, kindAt, nextAt, wholeAt, insideAt, entryAt, named, Reading, walk, reading}

@@ -3,7 +3,7 @@
 use mathlib.Core.Bool.{true}
 use mathlib.Core.List.{List, [], _∷_}
 use mathlib.Core.Path.{_≡_}
-use Prim.Native.Nat.{ℕ, suc, _+_, _*_, _≤_, _<_}
+use Prim.Native.Nat.{ℕ, suc, _*_, _≤_, _<_}
 use lib.ListN.{length, take, drop}
 use Rattle.model.specs.File.{Entry, kindAt, wholeAt, entryAt, named, Reading, walk, reading, flowsRead, columnRead}
 use Rattle.model.specs.declared.TableRead.{TableRead}
@@ -81,3 +81,13 @@ Ends o (Read n k) cells = Accepts o n k cells
 abbrev pub Opened : List ℕ → TableRead → Type 0
 Opened s (Refused q p) = reading s ≡ Reading.refused q p
 Opened s (Read n k) = (reading s ≡ walk (length s) s n [] 2) × (n ≤ 40) × (2 ≤ length s)
+
+-- the lent slices before and after the call, by what was read
+pub record Delivered (o : Reading) (x₀ f₀ e₀ m₀ v₀ p₀ r₀ x f e m v p r : List ℕ) : Type 0 where
+  pub flows : x ≡ flowsRead (length x₀) o
+  pub finalDemand : f ≡ columnRead 40 (length f₀) o
+  pub exports : e ≡ columnRead 41 (length e₀) o
+  pub imports : m ≡ columnRead 42 (length m₀) o
+  pub valueAdded : v ≡ columnRead 43 (length v₀) o
+  pub production : p ≡ columnRead 44 (length p₀) o
+  pub rises : r ≡ columnRead 45 (length r₀) o

@@ -1,5 +1,4 @@
 -- `table_file::end_at` meets its contract. Assumes nothing.
-use native.Mathlib.Omega.{arith}
 use borrow.Author.Needs.{needs}
 use Rattle.table_file.proofs.WalkLaws.{ended, trailing}
 use Rattle.table_file.proofs.end_at.Statement.{statement}

@@ -1,7 +1,6 @@
 -- `table_file::keep` meets its contract. Assumes nothing.
 use mathlib.Core.Path.{_≡_, sym, _∙_, subst}
-use mathlib.Core.List.{List, _∷_}
-use native.Mathlib.Omega.{arith}
+use mathlib.Core.List.{_∷_}
 use borrow.Author.Needs.{needs}
 use Rattle.model.specs.File.{Entry, entryAt}
 use Rattle.table_file.specs.Reader.{Kept, Within}
