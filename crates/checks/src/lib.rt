@@ -24,7 +24,7 @@ fn is_sized(n: usize) -> bool
 }
 
 // Is every length of a list n?
-fn all_equal(n: usize, lengths: &[usize]) -> bool
+pub fn all_equal(n: usize, lengths: &[usize]) -> bool
     ensures { λ r. ⌜ r ≡ all (eqb n) (now (lengths .entry)) ⌝ }
 {
     for i in 0..lengths.len() {

@@ -4,7 +4,9 @@ use mathlib.Core.List.{List, [], _∷_, _++_}
 use Prim.Native.Nat.{ℕ, zero, suc, _+_, _*_, _-_, _/_, _%_}
 use lib.Dec.{eqb, leb, ltb}
 use lib.ListN.{length, set, replicate}
-use Rattle.model.specs.Numbers.{cell}
+use Rattle.model.specs.Numbers.{all, cell}
+use Rattle.model.specs.declared.TableRead.{TableRead}
+use Rattle.model.specs.declared.TableRead.the-variants.{Read, Refused}
 
 -- A named cell. Lines 0 to 39 are the rows of x, with their columns for positions; lines 40 to 45 are F, E, M, V, X and the rises, with their sectors
 pub record Entry : Type 0 where
@@ -114,3 +116,26 @@ flowsOf n (e ∷ es) = cond (ltb (e .line) 40) (set (flowsOf n es) (e .line * n 
 abbrev pub columnOf : ℕ → List Entry → List ℕ
 columnOf line [] = replicate 40 0
 columnOf line (e ∷ es) = cond (eqb (e .line) line) (set (columnOf line es) (e .position) (e .amount)) (columnOf line es)
+
+-- ---- the reader's call
+-- 2. "1,600 cells for x, 40 for each of six columns, 46 work words": by the lengths of the lent slices
+abbrev pub fits : ℕ → List ℕ → ℕ → Bool
+fits x columns marks = eqb 1600 x && all (eqb 40) columns && eqb 46 marks
+
+unfoldable pub called : ℕ → List ℕ → ℕ → List ℕ → Reading
+unfolding reading
+called x columns marks s = let later = reading s in cond (fits x columns marks) later (Reading.refused 2 0)
+
+-- "the result is n and how many cells were named"
+abbrev pub answerOf : Reading → TableRead
+answerOf (Reading.refused q p) = Refused q p
+answerOf (Reading.table n es) = Read n (length es)
+
+-- what the call leaves in a slice that is lent for x, and for a column: after a refusal 0, in the slice's own length
+abbrev pub flowsRead : ℕ → Reading → List ℕ
+flowsRead len (Reading.refused q p) = replicate len 0
+flowsRead len (Reading.table n es) = flowsOf n es
+
+abbrev pub columnRead : ℕ → ℕ → Reading → List ℕ
+columnRead line len (Reading.refused q p) = replicate len 0
+columnRead line len (Reading.table n es) = columnOf line es

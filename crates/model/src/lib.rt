@@ -11,3 +11,9 @@ pub enum Outcome {
     Settled { rounds: u32 },
     Refused { number: u8, place: usize },
 }
+
+// The reader of a table file: n and how many cells were named, or the number and the place of the first check that fails.
+pub enum TableRead {
+    Read { sectors: usize, named: usize },
+    Refused { number: u8, place: usize },
+}

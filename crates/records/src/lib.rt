@@ -16,7 +16,7 @@ const LENGTHS: [usize; 10] = [0, 2, 7, 6, 6, 6, 6, 6, 1, 6];
 const LINES: [usize; 10] = [0, 0, 0, 40, 41, 42, 43, 44, 0, 45];
 
 // A byte at the wider types.
-fn wide(b: u8) -> usize
+pub fn wide(b: u8) -> usize
     ensures { λ r. ⌜ (r ≡ b) × (r < 256) ⌝ }
 {
     b as usize

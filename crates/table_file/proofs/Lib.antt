@@ -1,0 +1,5 @@
+pub mod WalkLaws
+pub mod NameLaws
+pub mod CellLaws
+pub mod Loops
+pub mod Delivery
