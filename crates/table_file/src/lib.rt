@@ -14,9 +14,9 @@ use records::record_length;
 use records::wide;
 ghost use mathlib.Core.List.{List, [], _∷_};
 ghost use mathlib.Core.Path.{_≡_};
-ghost use Prim.Native.Nat.{ℕ, _<_, _≤_};
-ghost use lib.ListN.{length, replicate, take, drop};
-ghost use Rattle.model.specs.File.{Entry, kindAt, entryAt, Reading, walk as walkFrom, reading, fits, called, answerOf, flowsRead, columnRead};
+ghost use Prim.Native.Nat.{ℕ, _≤_};
+ghost use lib.ListN.{length, replicate};
+ghost use Rattle.model.specs.File.{Entry, kindAt, entryAt, Reading, walk as walkFrom, reading, fits, called, answerOf};
 ghost use Rattle.records.specs.Bodies.{Body, Sectors};
 ghost use Rattle.table_file.specs.Reader.{Held, Kept, Within, Begun, Naming, Asked, Turned, Ends, Opened, Delivered};
 

@@ -43,7 +43,7 @@ part-copy-cells-end-3 : tie.Need-part-copy-cells-end-3
 part-copy-cells-end-3 c = search needs
 
 copy-cells-requires-3 : tie.Need-copy-cells-requires-3
-copy-cells-requires-3 c κs = let s = c .before .before .before .before .before .before .before .before .before .before .before .before .before .before .before .before .before .before .before .before in s .pre .3 ∙ sym (part-long 1640 40 (s .args .cells .now) (omega (arith, s .pre .0)))
+copy-cells-requires-3 c κs = search needs
 
 sub-copy-cells-4 : tie.Need-sub-copy-cells-4
 sub-copy-cells-4 c = search needs
