@@ -19,22 +19,25 @@ pub record Entry : Type 0 where
 abbrev pub recordLengths : List ℕ
 recordLengths = 0 ∷ 2 ∷ 7 ∷ 6 ∷ 6 ∷ 6 ∷ 6 ∷ 6 ∷ 1 ∷ 6 ∷ []
 
--- the line of a column by its kind, and the kind of a column by its line from 40 on
+-- "Kinds 3 to 7: F, E, M, V, X in that order. Kind 9": the line of a column by its kind
 abbrev pub columnLines : List ℕ
 columnLines = 0 ∷ 0 ∷ 0 ∷ 40 ∷ 41 ∷ 42 ∷ 43 ∷ 44 ∷ 0 ∷ 45 ∷ []
 
+-- and the kind of a column by its line, from line 40 on
 abbrev pub columnKinds : List ℕ
 columnKinds = 3 ∷ 4 ∷ 5 ∷ 6 ∷ 7 ∷ 9 ∷ []
 
--- "amounts are 4 bytes, highest first"; "sector bytes run from 1"
+-- "amounts are 4 bytes, highest first"
 abbrev pub amountBytes : ℕ → List ℕ
 amountBytes a = (a / 16777216) ∷ (a / 65536 % 256) ∷ (a / 256 % 256) ∷ (a % 256) ∷ []
 
+-- a record: "Kind 2: row, column, amount of x", the other kinds sector and amount; "sector bytes run from 1"
 unfoldable pub encode : Entry → List ℕ
 encode e =
     cond (ltb (e .line) 40) (2 ∷ (e .line + 1) ∷ (e .position + 1) ∷ amountBytes (e .amount))
     (cell columnKinds (e .line - 40) ∷ (e .position + 1) ∷ amountBytes (e .amount))
 
+-- records one after the other
 abbrev pub encodeAll : List Entry → List ℕ
 encodeAll [] = []
 encodeAll (e ∷ es) = encode e ++ encodeAll es
@@ -44,16 +47,20 @@ unfoldable pub fileOf : ℕ → List Entry → List ℕ
 fileOf n es = 1 ∷ n ∷ (encodeAll es ++ (8 ∷ []))
 
 -- ---- what stands at an offset of a file s
+-- the amount whose 4 bytes start at k
 unfoldable pub amountFrom : List ℕ → ℕ → ℕ
 amountFrom s k = ((cell s k * 256 + cell s (k + 1)) * 256 + cell s (k + 2)) * 256 + cell s (k + 3)
 
 module _ (s : List ℕ) (at : ℕ) where
+  -- "one byte of kind"
   abbrev pub kindAt : ℕ
   kindAt = cell s at
 
+  -- the record names a cell of x
   abbrev pub isFlow : Bool
   isFlow = eqb kindAt 2
 
+  -- the offset after the record
   abbrev pub nextAt : ℕ
   nextAt = at + cell recordLengths kindAt
 
@@ -67,6 +74,7 @@ module _ (s : List ℕ) (at : ℕ) where
       leb 1 (cell s (at + 1)) && leb (cell s (at + 1)) n
       && cond isFlow (leb 1 (cell s (at + 2)) && leb (cell s (at + 2)) n) true
 
+  -- the cell that the record names
   unfoldable pub entryAt : Entry
   unfolding amountFrom
   entryAt =
@@ -108,11 +116,13 @@ reading s =
     let whole = cond (wholeAt s 0) sized (Reading.refused 11 0) in
     cond (eqb (length s) 0) (Reading.refused 15 0) whole
 
--- ---- the cells that a reading names: "a cell not named is 0", "row i of x starts at cell i × n"
+-- ---- the cells that a reading names: "a cell not named is 0"
+-- x: "row i of x starts at cell i × n"
 abbrev pub flowsOf : ℕ → List Entry → List ℕ
 flowsOf n [] = replicate 1600 0
 flowsOf n (e ∷ es) = cond (ltb (e .line) 40) (set (flowsOf n es) (e .line * n + e .position) (e .amount)) (flowsOf n es)
 
+-- a column by its line
 abbrev pub columnOf : ℕ → List Entry → List ℕ
 columnOf line [] = replicate 40 0
 columnOf line (e ∷ es) = cond (eqb (e .line) line) (set (columnOf line es) (e .position) (e .amount)) (columnOf line es)
@@ -122,6 +132,7 @@ columnOf line (e ∷ es) = cond (eqb (e .line) line) (set (columnOf line es) (e 
 abbrev pub fits : ℕ → List ℕ → ℕ → Bool
 fits x columns marks = eqb 1600 x && all (eqb 40) columns && eqb 46 marks
 
+-- "The reader asks 2 first", then walks
 unfoldable pub called : ℕ → List ℕ → ℕ → List ℕ → Reading
 unfolding reading
 called x columns marks s = let later = reading s in cond (fits x columns marks) later (Reading.refused 2 0)
@@ -131,11 +142,12 @@ abbrev pub answerOf : Reading → TableRead
 answerOf (Reading.refused q p) = Refused q p
 answerOf (Reading.table n es) = Read n (length es)
 
--- what the call leaves in a slice that is lent for x, and for a column: after a refusal 0, in the slice's own length
+-- what the call leaves in the slice that is lent for x: after a refusal 0, in the slice's own length
 abbrev pub flowsRead : ℕ → Reading → List ℕ
 flowsRead len (Reading.refused q p) = replicate len 0
 flowsRead len (Reading.table n es) = flowsOf n es
 
+-- and in the slice that is lent for a column
 abbrev pub columnRead : ℕ → ℕ → Reading → List ℕ
 columnRead line len (Reading.refused q p) = replicate len 0
 columnRead line len (Reading.table n es) = columnOf line es

@@ -15,13 +15,15 @@ use Rattle.model.specs.Text.{decimal, line}
 abbrev pub pageBudget : ℕ
 pageBudget = 1400
 
--- the words: `refused`, `rounds`, and `sector demand production value imports`
+-- `refused`
 abbrev pub refusedWord : List ℕ
 refusedWord = 114 ∷ 101 ∷ 102 ∷ 117 ∷ 115 ∷ 101 ∷ 100 ∷ []
 
+-- `rounds`
 abbrev pub roundsWord : List ℕ
 roundsWord = 114 ∷ 111 ∷ 117 ∷ 110 ∷ 100 ∷ 115 ∷ []
 
+-- `sector demand production value imports`
 abbrev pub headings : List (List ℕ)
 headings =
     (115 ∷ 101 ∷ 99 ∷ 116 ∷ 111 ∷ 114 ∷ [])
@@ -39,20 +41,22 @@ refusalLine number place = line (refusedWord ∷ decimal number ∷ decimal plac
 abbrev pub orRefusal : Report → List ℕ → List ℕ
 orRefusal r page = cond (r .accepted) page (refusalLine (r .number) (r .place))
 
--- the line of sector i, written from 1, and the lines of the first n sectors
+-- the line of sector i, written from 1
 abbrev pub sectorLine : (demand production value imports : List ℕ) → ℕ → List ℕ
 sectorLine demand production value imports i =
     line (decimal (i + 1) ∷ decimal (cell demand i) ∷ decimal (cell production i) ∷ decimal (cell value i) ∷ decimal (cell imports i) ∷ [])
 
+-- the lines of the first n sectors
 abbrev pub linesTo : ℕ → (ℕ → List ℕ) → List ℕ
 linesTo zero w = []
 linesTo (suc n) w = linesTo n w ++ w n
 
--- the table that a reading names
 module _ (n : ℕ) (es : List Entry) where
+  -- the first n cells of a column
   abbrev columnRead : ℕ → List ℕ
   columnRead l = take n (columnOf l es)
 
+  -- the table that a reading names
   abbrev pub tableRead : Table
   tableRead = tableOf n (take (n * n) (flowsOf n es)) (columnRead 40) (columnRead 41) (columnRead 42) (columnRead 43) (columnRead 44)
 
@@ -73,10 +77,11 @@ tablePage t =
     orRefusal sheets (orRefusal settling (orRefusal induced
     (line headings ++ (sectors ++ line (roundsWord ∷ decimal (settling .rounds) ∷ [])))))
 
--- and of a file
+-- the page of a reading: a file's own refusals too are one line
 abbrev pub readingPage : Reading → List ℕ
 readingPage (Reading.refused number place) = refusalLine number place
 readingPage (Reading.table n es) = tablePage (tableRead n es)
 
+-- the page of a file, from its bytes to the printed bytes
 unfoldable pub page : List ℕ → List ℕ
 page s = readingPage (reading s)
