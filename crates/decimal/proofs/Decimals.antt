@@ -40,14 +40,7 @@ decimal-more n h =
 length-more : (n : ℕ) → 10 ≤ n → length (decimal n) ≡ length (decimal (n / 10)) + 1
 length-more n h = ap length (decimal-more n h) ∙ length-append (decimal (n / 10)) ((48 + n % 10) ∷ [])
 
--- at least one byte, and at most k + 1 for an amount below 10 ^ (k + 1)
-pub decimal-some : (n : ℕ) → 1 ≤ length (decimal n)
-decimal-some n = split (ltb n 10) refl
-  where
-    split : (t : Bool) → ltb n 10 ≡ t → 1 ≤ length (decimal n)
-    split true e = omega (arith, ap length (decimal-one n (ltb-true n 10 e)))
-    split false e = omega (arith, length-more n (ltb-false n 10 e))
-
+-- at most k + 1 bytes for an amount below 10 ^ (k + 1)
 pub decimal-fits : (k n : ℕ) → n < 10 ^ suc k → length (decimal n) ≤ suc k
 decimal-fits zero n h = omega (arith, ap length (decimal-one n h))
 decimal-fits (suc k) n h = split (ltb n 10) refl (decimal-fits k (n / 10))
@@ -57,9 +50,6 @@ decimal-fits (suc k) n h = split (ltb n 10) refl (decimal-fits k (n / 10))
     split false e more =
         let m = more (omega (arith, pow-suc 10 (suc k))) in
         omega (arith, length-more n (ltb-false n 10 e))
-
-pub decimal-twenty : (n : ℕ) → n < 2 ^ 64 → length (decimal n) ≤ 20
-decimal-twenty n h = decimal-fits 19 n (omega arith)
 
 -- a line of amounts below 10 ^ (k + 1) takes at most k + 2 bytes a field
 rest-fits : (k : ℕ) (xs : List ℕ)
