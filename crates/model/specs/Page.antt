@@ -53,12 +53,12 @@ linesTo (suc n) w = linesTo n w ++ w n
 
 module _ (n : ℕ) (es : List Entry) where
   -- the first n cells of a column
-  abbrev columnRead : ℕ → List ℕ
-  columnRead l = take n (columnOf l es)
+  abbrev cellsRead : ℕ → List ℕ
+  cellsRead l = take n (columnOf l es)
 
   -- the table that a reading names
   abbrev pub tableRead : Table
-  tableRead = tableOf n (take (n * n) (flowsOf n es)) (columnRead 40) (columnRead 41) (columnRead 42) (columnRead 43) (columnRead 44)
+  tableRead = tableOf n (take (n * n) (flowsOf n es)) (cellsRead 40) (cellsRead 41) (cellsRead 42) (cellsRead 43) (cellsRead 44)
 
 -- the page of a table: sheets from it, production of f, induced amounts with the table's F
 unfoldable pub tablePage : Table → List ℕ
