@@ -1,4 +1,3 @@
--- Runs of stores, decimals, and the bytes they take.
+-- Runs of stores, and worked decimals.
 pub mod Stores
-pub mod Decimals
 pub mod Examples

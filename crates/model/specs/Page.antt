@@ -2,6 +2,7 @@
 use mathlib.Core.Bool.{cond}
 use mathlib.Core.List.{List, [], _∷_, _++_}
 use Prim.Native.Nat.{ℕ, zero, suc, _+_, _*_}
+use lib.Dec.{leb}
 use lib.ListN.{take}
 use Rattle.model.specs.Numbers.{cell, at}
 use Rattle.model.specs.Table.{Table, tableOf}
@@ -51,6 +52,40 @@ abbrev pub linesTo : ℕ → (ℕ → List ℕ) → List ℕ
 linesTo zero w = []
 linesTo (suc n) w = linesTo n w ++ w n
 
+-- `rounds`, and how many
+abbrev pub roundsLine : ℕ → List ℕ
+roundsLine rounds = line (roundsWord ∷ decimal rounds ∷ [])
+
+-- headings, a line a sector, and the rounds
+unfoldable pub sheet : ℕ → (demand production value imports : List ℕ) → ℕ → List ℕ
+sheet n demand production value imports rounds =
+    line headings ++ (linesTo n (sectorLine demand production value imports) ++ roundsLine rounds)
+
+-- ---- the page of a table, call by call
+-- third call: what the production y of the demand f induces, with the table's F
+unfoldable pub inducedPage : ℕ → (a m v F f y : List ℕ) → ℕ → List ℕ
+unfolding refusalLine sheet
+inducedPage n a m v F f y rounds =
+    let printed = sheet n f y (inducedValueAdded n v y) (inducedImports n (at n a) m F y) rounds in
+    orRefusal (inducedReport n a m v F y (n ∷ n ∷ [])) printed
+
+-- second call: production of f
+unfoldable pub productionPage : ℕ → (a m v F d f : List ℕ) → List ℕ
+unfolding refusalLine inducedPage
+productionPage n a m v F d f =
+    let settling = productionReport n d f pageBudget (n ∷ n ∷ []) in
+    let onward = inducedPage n a m v F f (settled n (at n d) f pageBudget) (settling .rounds) in
+    orRefusal settling onward
+
+-- first call: sheets from the table
+unfoldable pub tablePage : Table → List ℕ
+unfolding refusalLine productionPage
+tablePage t =
+    let n = t .sectors in
+    let onward = productionPage n (inputCoefficients t) (importCoefficients t) (valueAddedCoefficients t) (t .finalDemand) (domesticCoefficients t) (domesticDemands t) in
+    orRefusal (coefficientsReport t (n * n ∷ n * n ∷ []) (n ∷ n ∷ n ∷ [])) onward
+
+-- ---- the page of a file
 module _ (n : ℕ) (es : List Entry) where
   -- the first n cells of a column
   abbrev cellsRead : ℕ → List ℕ
@@ -60,23 +95,6 @@ module _ (n : ℕ) (es : List Entry) where
   abbrev pub tableRead : Table
   tableRead = tableOf n (take (n * n) (flowsOf n es)) (cellsRead 40) (cellsRead 41) (cellsRead 42) (cellsRead 43) (cellsRead 44)
 
--- the page of a table: sheets from it, production of f, induced amounts with the table's F
-unfoldable pub tablePage : Table → List ℕ
-unfolding refusalLine
-tablePage t =
-    let n = t .sectors in
-    let d = domesticCoefficients t in
-    let f = domesticDemands t in
-    let y = settled n (at n d) f pageBudget in
-    let value = inducedValueAdded n (valueAddedCoefficients t) y in
-    let imports = inducedImports n (at n (inputCoefficients t)) (importCoefficients t) (t .finalDemand) y in
-    let sheets = coefficientsReport t (n * n ∷ n * n ∷ []) (n ∷ n ∷ n ∷ []) in
-    let settling = productionReport n d f pageBudget (n ∷ n ∷ []) in
-    let induced = inducedReport n (inputCoefficients t) (importCoefficients t) (valueAddedCoefficients t) (t .finalDemand) y (n ∷ n ∷ []) in
-    let sectors = linesTo n (sectorLine f y value imports) in
-    orRefusal sheets (orRefusal settling (orRefusal induced
-    (line headings ++ (sectors ++ line (roundsWord ∷ decimal (settling .rounds) ∷ [])))))
-
 -- the page of a reading: a file's own refusals too are one line
 abbrev pub readingPage : Reading → List ℕ
 readingPage (Reading.refused number place) = refusalLine number place
@@ -85,3 +103,13 @@ readingPage (Reading.table n es) = tablePage (tableRead n es)
 -- the page of a file, from its bytes to the printed bytes
 unfoldable pub page : List ℕ → List ℕ
 page s = readingPage (reading s)
+
+-- ---- the call that writes it
+-- bytes that hold every page: headings, 40 lines of five amounts with 13 digits at most, and `rounds 1400`
+abbrev pub pageLimit : ℕ
+pageLimit = 39 + 40 * 70 + 12
+
+-- what is written from the start of a lent buffer of len bytes: the page; nothing into a buffer that some page would not fit
+unfoldable pub printed : ℕ → List ℕ → List ℕ
+unfolding page
+printed len s = cond (leb pageLimit len) (page s) []

@@ -18,3 +18,4 @@ pub mod Files
 pub mod Lengths
 pub mod Prefixes
 pub mod Balances
+pub mod Decimals

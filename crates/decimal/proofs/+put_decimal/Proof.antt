@@ -10,7 +10,7 @@ use borrow.Fn.PlainCycle.{Measures, is, falls, and}
 use lib.ListN.{length, length-set}
 use Rattle.model.specs.Text.{decimal}
 use Rattle.decimal.proofs.Stores.{Begun, begin, go-on, done, kept, room, room-first}
-use Rattle.decimal.proofs.Decimals.{decimal-one, decimal-more}
+use Rattle.theory.proofs.Decimals.{decimal-one, decimal-more}
 use Rattle.decimal.proofs.put_decimal.Reads as put-decimal
 use Rattle.decimal.proofs.put_decimal.Kinds as put-decimal-kinds
 use Rattle.decimal.proofs.+put_decimal.Lts-put_decimal as put-decimal-lts
