@@ -17,5 +17,6 @@ pub mod Encoding
 pub mod Files
 pub mod Lengths
 pub mod Prefixes
+pub mod Readings
 pub mod Balances
 pub mod Decimals

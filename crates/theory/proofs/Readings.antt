@@ -1,0 +1,77 @@
+-- What a reading may be: a refusal of at most 15 at a place of the file, or 1 to 40 sectors; and how many cells it gives. Assumes nothing.
+use mathlib.Core.Bool.{Bool, true, false, _&&_, cond}
+use mathlib.Core.List.{List, [], _∷_}
+use mathlib.Core.Path.{_≡_, refl, subst, _∙_}
+use Prim.Native.Nat.{ℕ, zero, suc, _+_, _*_, _≤_}
+use native.Mathlib.Nat.{le-refl}
+use native.Mathlib.Omega.{arith}
+use borrow.Author.Tests.{leb-false, leb-true}
+use lib.Dec.{eqb, leb, ltb, lit≤}
+use lib.ListN.{length, set, length-set, length-replicate}
+use Rattle.model.specs.Numbers.{cell}
+use Rattle.model.specs.File.{Entry, kindAt, nextAt, wholeAt, insideAt, entryAt, named, Reading, walk, reading, flowsOf, columnOf}
+use Rattle.theory.proofs.Lists.{and-true}
+
+-- of a file of len bytes
+abbrev pub Answered : ℕ → Reading → Type 0
+Answered len (Reading.refused number place) = (number ≤ 15) × (place ≤ len)
+Answered len (Reading.table n es) = (1 ≤ n) × (n ≤ 40)
+
+-- a test that refuses where it passes, and one that refuses where it fails
+unless : (len : ℕ) (b : Bool) (x : Reading) (number place : ℕ) → (number ≤ 15) × (place ≤ len) → (b ≡ false → Answered len x)
+    → Answered len (cond b (Reading.refused number place) x)
+unless len true x number place r go = r
+unless len false x number place r go = go refl
+
+provided : (len : ℕ) (b : Bool) (x : Reading) (number place : ℕ) → (number ≤ 15) × (place ≤ len) → (b ≡ true → Answered len x)
+    → Answered len (cond b x (Reading.refused number place))
+provided len true x number place r go = go refl
+provided len false x number place r go = r
+
+either : (len : ℕ) (b : Bool) (x y : Reading) → Answered len x → Answered len y → Answered len (cond b x y)
+either len true x y p q = p
+either len false x y p q = q
+
+walk-answered : (fuel : ℕ) (s : List ℕ) (n : ℕ) (es : List Entry) (at : ℕ) → 1 ≤ n → n ≤ 40 → Answered (length s) (walk fuel s n es at)
+unfolding walk
+walk-answered zero s n es at some few = (le-refl 15, le-refl (length s))
+walk-answered (suc fuel) s n es at some few =
+    let len = length s in
+    unless len (leb len at) _ 15 len (le-refl 15, le-refl len) (λ on.
+    let low = leb-false len at on in
+    provided len (wholeAt s at) _ 11 at (lit≤ tt, omega arith) (λ whole.
+    unless len (eqb (kindAt s at) 1) _ 12 at (lit≤ tt, omega arith) (λ later.
+    either len (eqb (kindAt s at) 8) _ _
+    (provided len (eqb (at + 1) len) (Reading.table n es) 15 (at + 1) (le-refl 15, omega arith) (λ last. (some, few)))
+    (provided len (insideAt s at n) _ 13 at (lit≤ tt, omega arith) (λ inside.
+    unless len (named es (entryAt s at)) _ 14 at (lit≤ tt, omega arith) (λ fresh.
+    walk-answered fuel s n (entryAt s at ∷ es) (nextAt s at) some few))))))
+
+pub reading-answered : (s : List ℕ) → Answered (length s) (reading s)
+unfolding reading
+reading-answered s =
+    let len = length s in
+    let n = cell s 1 in
+    let range = leb 1 n && leb n 40 in
+    unless len (eqb len 0) _ 15 0 (le-refl 15, omega arith) (λ some.
+    provided len (wholeAt s 0) _ 11 0 (lit≤ tt, omega arith) (λ whole.
+    provided len (eqb (kindAt s 0) 1 && range) _ 12 0 (lit≤ tt, omega arith) (λ sized.
+    let size = and-true (leb 1 n) (leb n 40) (and-true (eqb (kindAt s 0) 1) range sized .1) in
+    walk-answered len s n [] 2 (leb-true 1 n (size .0)) (leb-true n 40 (size .1)))))
+
+-- an accepted file has 1 to 40 sectors
+pub read-sized : (s : List ℕ) (n : ℕ) (es : List Entry) → reading s ≡ Reading.table n es → (1 ≤ n) × (n ≤ 40)
+read-sized s n es e = subst (Answered (length s)) e (reading-answered s)
+
+-- ---- the cells that it names, among all that a slice has
+length-chosen : (b : Bool) (l : List ℕ) (i a : ℕ) → length (cond b (set l i a) l) ≡ length l
+length-chosen true l i a = length-set l i a
+length-chosen false l i a = refl
+
+pub length-flows : (n : ℕ) (es : List Entry) → length (flowsOf n es) ≡ 1600
+length-flows n [] = length-replicate {A = ℕ} 1600 0
+length-flows n (e ∷ es) = length-chosen (ltb (e .line) 40) (flowsOf n es) (e .line * n + e .position) (e .amount) ∙ length-flows n es
+
+pub length-column : (l : ℕ) (es : List Entry) → length (columnOf l es) ≡ 40
+length-column l [] = length-replicate {A = ℕ} 40 0
+length-column l (e ∷ es) = length-chosen (eqb (e .line) l) (columnOf l es) (e .position) (e .amount) ∙ length-column l es
