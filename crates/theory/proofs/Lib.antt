@@ -20,3 +20,4 @@ pub mod Prefixes
 pub mod Readings
 pub mod Balances
 pub mod Decimals
+pub mod Pages

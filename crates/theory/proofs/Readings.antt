@@ -1,23 +1,25 @@
--- What a reading may be: a refusal of at most 15 at a place of the file, or 1 to 40 sectors; and how many cells it gives. Assumes nothing.
+-- What a reading may be: a refusal with a number up to 15 and a place up to 12,649, or 1 to 40 sectors; and how many cells it gives. Assumes nothing.
 use mathlib.Core.Bool.{Bool, true, false, _&&_, cond}
 use mathlib.Core.List.{List, [], _∷_}
 use mathlib.Core.Path.{_≡_, refl, subst, _∙_}
 use Prim.Native.Nat.{ℕ, zero, suc, _+_, _*_, _≤_}
 use native.Mathlib.Nat.{le-refl}
 use native.Mathlib.Omega.{arith}
-use borrow.Author.Tests.{leb-false, leb-true}
+use borrow.Author.Tests.{leb-false, leb-true, ltb-true, ltb-false}
 use lib.Dec.{eqb, leb, ltb, lit≤}
-use lib.ListN.{length, set, length-set, length-replicate}
+use lib.ListN.{length, take, set, length-set, length-replicate}
+use lib.Seq.{length-take-le}
 use Rattle.model.specs.Numbers.{cell}
 use Rattle.model.specs.File.{Entry, kindAt, nextAt, wholeAt, insideAt, entryAt, named, Reading, walk, reading, flowsOf, columnOf}
 use Rattle.theory.proofs.Lists.{and-true}
+use Rattle.theory.proofs.Prefixes.{prefix-answers}
 
--- of a file of len bytes
+-- with places up to `most`
 abbrev pub Answered : ℕ → Reading → Type 0
-Answered len (Reading.refused number place) = (number ≤ 15) × (place ≤ len)
-Answered len (Reading.table n es) = (1 ≤ n) × (n ≤ 40)
+Answered most (Reading.refused number place) = (number ≤ 15) × (place ≤ most)
+Answered most (Reading.table n es) = (1 ≤ n) × (n ≤ 40)
 
--- a test that refuses where it passes, and one that refuses where it fails
+-- with places in the file: a test that refuses where it passes, and one that refuses where it fails
 unless : (len : ℕ) (b : Bool) (x : Reading) (number place : ℕ) → (number ≤ 15) × (place ≤ len) → (b ≡ false → Answered len x)
     → Answered len (cond b (Reading.refused number place) x)
 unless len true x number place r go = r
@@ -47,9 +49,9 @@ walk-answered (suc fuel) s n es at some few =
     unless len (named es (entryAt s at)) _ 14 at (lit≤ tt, omega arith) (λ fresh.
     walk-answered fuel s n (entryAt s at ∷ es) (nextAt s at) some few))))))
 
-pub reading-answered : (s : List ℕ) → Answered (length s) (reading s)
+whole-answered : (s : List ℕ) → Answered (length s) (reading s)
 unfolding reading
-reading-answered s =
+whole-answered s =
     let len = length s in
     let n = cell s 1 in
     let range = leb 1 n && leb n 40 in
@@ -59,9 +61,25 @@ reading-answered s =
     let size = and-true (leb 1 n) (leb n 40) (and-true (eqb (kindAt s 0) 1) range sized .1) in
     walk-answered len s n [] 2 (leb-true 1 n (size .0)) (leb-true n 40 (size .1)))))
 
+answered-more : (a b : ℕ) (r : Reading) → a ≤ b → Answered a r → Answered b r
+answered-more a b (Reading.refused number place) h p = (p .0, omega (arith, p .1))
+answered-more a b (Reading.table n es) h p = p
+
+-- a longer file is answered as its first 12,649 bytes are
+pub reading-answered : (s : List ℕ) → Answered 12649 (reading s)
+reading-answered s = split (ltb (length s) 12649) refl
+  where
+    split : (b : Bool) → ltb (length s) 12649 ≡ b → Answered 12649 (reading s)
+    split true e = answered-more (length s) 12649 (reading s) (omega (arith, ltb-true (length s) 12649 e)) (whole-answered s)
+    split false e =
+        let long = ltb-false (length s) 12649 e in
+        let start = take 12649 s in
+        subst (Answered 12649) (prefix-answers 12649 s (le-refl 12649) long)
+        (answered-more (length start) 12649 (reading start) (omega (arith, length-take-le 12649 s long)) (whole-answered start))
+
 -- an accepted file has 1 to 40 sectors
 pub read-sized : (s : List ℕ) (n : ℕ) (es : List Entry) → reading s ≡ Reading.table n es → (1 ≤ n) × (n ≤ 40)
-read-sized s n es e = subst (Answered (length s)) e (reading-answered s)
+read-sized s n es e = subst (Answered 12649) e (reading-answered s)
 
 -- ---- the cells that it names, among all that a slice has
 length-chosen : (b : Bool) (l : List ℕ) (i a : ℕ) → length (cond b (set l i a) l) ≡ length l
