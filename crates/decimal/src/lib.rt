@@ -53,7 +53,7 @@ pub fn put_field(amount: u64, at: usize, out: &mut [u8]) -> usize
 }
 
 // The rest of a line after its first field.
-fn put_rest(cells: &[u64], at: usize, out: &mut [u8]) -> usize
+pub fn put_rest(cells: &[u64], at: usize, out: &mut [u8]) -> usize
     requires { ⌜ at + length (rest (map decimal (now cells))) ≤ length (now out) ⌝ }
     ensures { λ r. ⌜ r ≡ at + length (rest (map decimal (now (cells .entry)))) ⌝ }
     ensures { λ _. ⌜ now (out .exit) ≡ sets (now (out .entry)) at (rest (map decimal (now (cells .entry)))) ⌝ }

@@ -1,0 +1,2 @@
+-- Lines written one after another.
+pub mod LineLaws
