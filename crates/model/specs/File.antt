@@ -142,6 +142,18 @@ abbrev pub answerOf : Reading → TableRead
 answerOf (Reading.refused q p) = Refused q p
 answerOf (Reading.table n es) = Read n (length es)
 
+-- what an answer says, case by case, in the paper's numbers
+pub record ReadReport : Type 0 where
+  pub accepted : Bool
+  pub number : ℕ
+  pub place : ℕ
+  pub sectors : ℕ
+  pub named : ℕ
+
+abbrev pub reportRead : TableRead → ReadReport
+reportRead (Read n k) = record { accepted = true; number = 0; place = 0; sectors = n; named = k }
+reportRead (Refused q p) = record { accepted = false; number = q; place = p; sectors = 0; named = 0 }
+
 -- what the call leaves in the slice that is lent for x: after a refusal 0, in the slice's own length
 abbrev pub flowsRead : ℕ → Reading → List ℕ
 flowsRead len (Reading.refused q p) = replicate len 0
