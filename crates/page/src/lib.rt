@@ -223,6 +223,7 @@ fn file_page(file: &[u8], out: &mut [u8]) -> usize
 pub fn write_page(file: &[u8], out: &mut [u8]) -> usize
     ensures { λ r. ⌜ r ≡ length (printed (length (now (out .entry))) (now (file .entry))) ⌝ }
     ensures { λ _. ⌜ now (out .exit) ≡ sets (now (out .entry)) 0 (printed (length (now (out .entry))) (now (file .entry))) ⌝ }
+    ensures { λ r. ⌜ r ≤ length (now (out .entry)) ⌝ }
 {
     if out.len() < 2851 {
         return 0;

@@ -3,10 +3,10 @@ use mathlib.Core.Bool.{Bool, true, false, cond}
 use mathlib.Core.List.{List, [], _∷_, _++_}
 use mathlib.Core.Path.{_≡_, refl, ap, _∙_}
 use Prim.Native.Nat.{ℕ, zero, suc, _+_, _*_, _^_, _≤_, _<_}
-use native.Mathlib.Nat.{not-suc-le-zero, le-step, lt-suc-self, lt-of-lt-of-le, mul-le-mul}
+use native.Mathlib.Nat.{not-suc-le-zero, le-trans, le-step, lt-suc-self, lt-of-lt-of-le, mul-le-mul}
 use native.Mathlib.Omega.{arith}
-use borrow.Author.Tests.{ltb-true, ltb-false, leb-true}
-use lib.Dec.{ltb, lit≤, lit<}
+use borrow.Author.Tests.{ltb-true, ltb-false, leb-true, le-leb, lt-leb}
+use lib.Dec.{leb, ltb, lit≤, lit<}
 use lib.ListN.{length, length-append}
 use Rattle.model.specs.Numbers.{first, cell, at}
 use Rattle.model.specs.Table.{Table, portion}
@@ -15,7 +15,7 @@ use Rattle.model.specs.Checks.{Report, accepts, Check, verdict, refuses, size, 
 use Rattle.model.specs.Calls.{coefficientsReport, inputCoefficients, valueAddedCoefficients, importCoefficients, domesticCoefficients, domesticDemands, productionReport, inducedReport}
 use Rattle.model.specs.File.{Reading, reading}
 use Rattle.model.specs.Text.{decimal, line}
-use Rattle.model.specs.Page.{pageBudget, headings, refusalLine, orRefusal, sectorLine, linesTo, roundsLine, sheet, inducedPage, productionPage, tablePage, tableRead, readingPage, page, pageLimit}
+use Rattle.model.specs.Page.{pageBudget, headings, refusalLine, orRefusal, sectorLine, linesTo, roundsLine, sheet, inducedPage, productionPage, tablePage, tableRead, readingPage, page, pageLimit, printed}
 use Rattle.theory.proofs.Sums.{upto, sum-cell, cell-in}
 use Rattle.theory.proofs.Lists.{cell-tabulate, first-before}
 use Rattle.theory.proofs.Shares.{portion-le}
@@ -215,3 +215,20 @@ reading-fits (Reading.table n es) p = table-fits (tableRead n es)
 pub page-fits : (s : List ℕ) → length (page s) ≤ pageLimit
 unfolding page
 page-fits s = reading-fits (reading s) (reading-answered s)
+
+-- ---- what is written into a buffer, by its length; it lies in the buffer
+pub printed-none : (len : ℕ) (s : List ℕ) → len < pageLimit → [] ≡ printed len s
+unfolding printed
+printed-none len s h = rw (lt-leb pageLimit len h) refl
+
+pub printed-page : (len : ℕ) (s : List ℕ) → pageLimit ≤ len → page s ≡ printed len s
+unfolding printed
+printed-page len s h = rw (le-leb pageLimit len h) refl
+
+pub printed-fits : (len : ℕ) (s : List ℕ) → length (printed len s) ≤ len
+unfolding printed
+printed-fits len s = split (leb pageLimit len) refl
+  where
+    split : (b : Bool) → leb pageLimit len ≡ b → length (cond b (page s) []) ≤ len
+    split true e = le-trans (page-fits s) (leb-true pageLimit len e)
+    split false e = omega arith

@@ -1,0 +1,4 @@
+// Prints the sheet of a table file: see `program`.
+fn main() {
+    program::run();
+}
