@@ -3,7 +3,6 @@
 use libc::STDIN_FILENO;
 use libc::STDOUT_FILENO;
 use page::write_page;
-
 ghost use lib.ListN.{length};
 ghost use Rattle.program.specs.Inputs.{Inside};
 

@@ -1,58 +1,25 @@
+-- `program::print_page` is safe: the page lies in its buffer. Assumes nothing.
+use mathlib.Core.Path.{sym}
+use native.Mathlib.Omega.{arith}
+use Prim.Native.Nat.{_≤_}
 use borrow.Author.Needs.{needs}
+use lib.ListN.{length}
+use lib.Seq.{length-take-le}
 use Rattle.program.proofs.print_page.Statement.{statement}
 use Rattle.program.proofs.print_page.Tie as tie
-use Rattle.program.proofs.print_page.Reads as reads
-use Rattle.program.proofs.print_page.Lts as lts
-use Rattle.io.proofs.write_all.Reads as write-all-reads
-use Rattle.os.proofs.fail.Reads as fail-reads
-use Rattle.page.proofs.write_page.Reads as write-page-reads
 
--- src/lib.rt:37:34
-slice-aggregate-write-page : tie.Need-slice-aggregate-write-page
-slice-aggregate-write-page c = search needs
+fits : (q : tie.After-write-page) → q .write-page .result ≤ length (q .write-page .last .1 .0)
+fits q = omega (arith, q .write-page .ensures .1 .1, q .write-page .kept .1 .0)
 
--- src/lib.rt:37:9
-write-page-requires : tie.Need-write-page-requires
-write-page-requires c κs = search needs
-
--- src/lib.rt:38:38
 array-share-prefix-out : tie.Need-array-share-prefix-out
-array-share-prefix-out c = ?
+array-share-prefix-out c = fits (c .before)
 
--- src/lib.rt:38:38
 slice-aggregate-write-all : tie.Need-slice-aggregate-write-all
-slice-aggregate-write-all c = ?
-
--- src/lib.rt:38:9
-write-all-requires : tie.Need-write-all-requires
-write-all-requires c κs = search needs
-
--- src/lib.rt:39:18
-slice-aggregate-fail : tie.Need-slice-aggregate-fail
-slice-aggregate-fail c = search needs
-
--- src/lib.rt:39:9
-fail-requires : tie.Need-fail-requires
-fail-requires c κs = search needs
-
--- src/lib.rt:35:1
-returns : tie.Need-returns
-returns c = search needs
-
--- src/lib.rt:35:1
-returns-2 : tie.Need-returns-2
-returns-2 c = search needs
+slice-aggregate-write-all c = let q = c .before .before in sym (length-take-le (q .write-page .result) (q .write-page .last .1 .0) (fits q))
 
 pub print-page-spec : {M : Type 1} → statement M
 print-page-spec =
     tie.close
     (tie.spec
-    slice-aggregate-write-page
-    write-page-requires
-    array-share-prefix-out
-    slice-aggregate-write-all
-    write-all-requires
-    slice-aggregate-fail
-    fail-requires
-    returns
-    returns-2)
+    (λ c. search needs) (λ c κs. search needs) array-share-prefix-out slice-aggregate-write-all
+    (λ c κs. search needs) (λ c. search needs) (λ c κs. search needs) (λ c. search needs) (λ c. search needs))
