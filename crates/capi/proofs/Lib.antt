@@ -1,0 +1,2 @@
+-- Laws of what the calls for C tell.
+pub mod Rows
