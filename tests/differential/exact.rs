@@ -4,8 +4,8 @@ use crate::calls::{by_library, Call, Case};
 use crate::generate::{domestic, Rng};
 use crate::reference::{turned, ONE, DEMAND_LIMIT, RISE_LIMIT};
 
-/// A signed whole number of 320 bits, two's complement, lowest word first. The largest number
-/// here is below (2 × 10^6)^6 × 2 × 10^15 × 40 × 10^6 < 2^210.
+/// A signed whole number of 320 bits, two's complement, lowest word first. With at most 6 sectors
+/// every number here is below 2^210.
 #[derive(Clone, Copy, PartialEq, Eq)]
 struct Wide([u64; 5]);
 

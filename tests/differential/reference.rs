@@ -170,7 +170,6 @@ fn share(amount: u64, whole: u128) -> u128 {
 }
 
 /// Sheets from a table: a, v, m, d, f. Asks 1 to 7.
-#[allow(clippy::too_many_arguments)]
 pub fn coefficients(
     n: usize,
     x: &[u64],
