@@ -1,0 +1,3 @@
+-- Laws of what the calls for C tell.
+pub mod Rows
+pub mod Numbers

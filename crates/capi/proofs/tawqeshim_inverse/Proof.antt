@@ -1,0 +1,14 @@
+-- `capi::tawqeshim_inverse` meets its contract. Assumes nothing.
+use mathlib.Core.Path.{sym}
+use borrow.Author.Needs.{needs}
+use Rattle.capi.proofs.tawqeshim_inverse.Statement.{statement}
+use Rattle.capi.proofs.tawqeshim_inverse.Tie as tie
+
+returns : tie.Need-returns
+returns c =
+    let e = c .before .before .before .before .before .before .before .before .before .before .inverse .ensures in
+    rw (sym (e .0)) (c .tell-outcome .ensures, e .1 .0, e .1 .1 .0, e .1 .1 .1)
+
+pub tawqeshim-inverse-spec : {M : Type 1} → statement M
+tawqeshim-inverse-spec =
+    tie.close (tie.spec (λ c κs. search needs) (λ c κs. search needs) (λ c. search needs) (λ c. search needs) (λ c. search needs) returns)

@@ -1,0 +1,197 @@
+/*
+ * Tawqeshim for C: input-output sheets, production, prices and multipliers of a region, in whole numbers.
+ *
+ * Each function does what the library's call of the same name does, and is proved to (crates/capi). Link with libcapi.a, which
+ * `rt staticlib capi` writes, or with libtawqeshim.so, which scripts/shared-library builds. Both are for x86-64 Linux.
+ *
+ * A table has n sectors, 1 to 40, counted from 0. Matrices have n * n cells, row by row: the cell of row i and column j is cell i * n + j.
+ * Amounts are whole numbers of one money unit. Shares and coefficients are whole millionths: "one" is 1,000,000. Quotients are rounded down.
+ *
+ * Slices. Each array is a pointer, then its length in cells (of `file`, in bytes). Any lengths, cells, n and budget may be handed over; a
+ * wrong length is refused with number 2.
+ *
+ * Answers. `*number` is 0 if the call was accepted, and only then; `*place` is then 0. Otherwise `*number` is that of the first question
+ * answered no, `*place` says where, and every count is 0. Questions are asked in the order that a function states.
+ *
+ *    1  n is from 1 to 40
+ *    2  every array has its exact length, outputs and work included
+ *    3  every amount is within 1,000,000,000, and every share within one. Place: the first cell over, counted on through the arrays
+ *    4  every column balances: purchases and value added are production. Place: the first column that does not
+ *    5  every row balances: sales, final demand and exports are production and imports. Place: the first row that does not
+ *    6  a sector's imports are at most its sales and final demand. Place: the first sector over
+ *    7  every column sum of domestic coefficients is at most 950,000. Place: the first column over
+ *    8  every demand is at most 2,000,000,000, every direct rise at most 1,000,000,000, and a given production totals at most
+ *       1,600,000,000,000. Place: the first sector over, or at which the running total is
+ *    9  the rounds settle within the budget. Place: 0; of the inverse, the first column that does not settle
+ *   10  a given production leaves every sector's demand at 0 or above. Place: the first sector short
+ *   11  a record's kind is 1 to 9, and its body is whole
+ *   12  the first record is kind 1 with n from 1 to 40, and no later record is kind 1
+ *   13  every sector byte is from 1 to n
+ *   14  the cell is named for the first time. Place of 11 to 14: the offset of the record's kind byte
+ *   15  kind 8 comes, with no byte after it. Place: the file's length if no end came, else the offset after the end
+ *
+ * Places of questions without one are 0.
+ *
+ * The caller's duties, which no function can ask about:
+ *   - no pointer is null, also where its length is 0; each is aligned for its type;
+ *   - each array is readable, and where it is not const writable, for its whole length;
+ *   - what is not const, arrays and numbers alike, overlaps nothing else that is handed to the same call.
+ *
+ * No function allocates, keeps anything between calls, or writes to what is const. Whatever outputs, work and numbers held before is
+ * overwritten.
+ */
+#ifndef TAWQESHIM_H
+#define TAWQESHIM_H
+
+#include <stddef.h>
+#include <stdint.h>
+
+#ifdef __cplusplus
+extern "C" {
+#endif
+
+/*
+ * From a table to its sheets. Asks 1, 2, 3, 4, 5, 6, 7.
+ *
+ * Takes x, n * n cells: what sector j buys from sector i; and final_demand, exports, imports (as positive numbers), value_added and
+ * production, n cells each. Places of 3 count on through these six in this order.
+ * Gives input coefficients a and domestic coefficients d, n * n cells each; value shares v, import shares m and the demand for domestic
+ * goods f, n cells each. Question 7 is about d.
+ * A refusal sets every cell of a, v, m, d and f to 0.
+ */
+void tawqeshim_coefficients(
+    size_t n,
+    const uint64_t *x, size_t x_length,
+    const uint64_t *final_demand, size_t final_demand_length,
+    const uint64_t *exports, size_t exports_length,
+    const uint64_t *imports, size_t imports_length,
+    const uint64_t *value_added, size_t value_added_length,
+    const uint64_t *production, size_t production_length,
+    uint64_t *a, size_t a_length,
+    uint64_t *v, size_t v_length,
+    uint64_t *m, size_t m_length,
+    uint64_t *d, size_t d_length,
+    uint64_t *f, size_t f_length,
+    uint8_t *number, size_t *place);
+
+/*
+ * Production from a demand for domestic goods. Asks 1, 2, 7, 8, 9.
+ *
+ * Takes domestic coefficients d, n * n cells; a demand f, n cells; and the rounds allowed.
+ * Gives the settled production in out, n cells, and in *rounds the first round that changes no sector, counted from 1. Against an exact
+ * balance no sector is too high, and all n together are less than 20 * n short.
+ * A refusal sets every cell of out to 0. Every cell of work, n cells, is 0 after every call.
+ */
+void tawqeshim_production(
+    size_t n,
+    const uint64_t *d, size_t d_length,
+    const uint64_t *f, size_t f_length,
+    uint32_t budget,
+    uint64_t *out, size_t out_length,
+    uint64_t *work, size_t work_length,
+    uint8_t *number, size_t *place, uint32_t *rounds);
+
+/*
+ * Price rises from direct rises, both in millionths. Asks 1, 2, 7, 8, 9.
+ *
+ * Takes domestic coefficients d, n * n cells; direct rises w, n cells; and the rounds allowed.
+ * Gives the settled rises in out, n cells, and their count of rounds. Against an exact balance no rise is above it, and each is less than
+ * 20 millionths below.
+ * A refusal sets every cell of out to 0. Every cell of work, n cells, is 0 after every call.
+ */
+void tawqeshim_price(
+    size_t n,
+    const uint64_t *d, size_t d_length,
+    const uint64_t *w, size_t w_length,
+    uint32_t budget,
+    uint64_t *out, size_t out_length,
+    uint64_t *work, size_t work_length,
+    uint8_t *number, size_t *place, uint32_t *rounds);
+
+/*
+ * The demand for domestic goods behind a production. Asks 1, 2, 7, 8, 10.
+ *
+ * Takes domestic coefficients d, n * n cells, and a production, n cells.
+ * Gives the demand in out, n cells. A production that tawqeshim_production gave is accepted, and returns its demand; from the demand
+ * behind another, production need not come back, but is nowhere above it.
+ * A refusal sets every cell of out to 0.
+ */
+void tawqeshim_implied_demand(
+    size_t n,
+    const uint64_t *d, size_t d_length,
+    const uint64_t *production, size_t production_length,
+    uint64_t *out, size_t out_length,
+    uint8_t *number, size_t *place);
+
+/*
+ * Value added and imports that a production induces. Asks 1, 2, 3, 8.
+ *
+ * Takes input coefficients a, n * n cells; import shares m, value shares v, final_demand and a production, n cells each. Places of 3 count
+ * on through a, m, v and final_demand.
+ * Gives induced value added in value and induced imports in imports, n cells each.
+ * A refusal sets every cell of value and imports to 0.
+ */
+void tawqeshim_induced(
+    size_t n,
+    const uint64_t *a, size_t a_length,
+    const uint64_t *m, size_t m_length,
+    const uint64_t *v, size_t v_length,
+    const uint64_t *final_demand, size_t final_demand_length,
+    const uint64_t *production, size_t production_length,
+    uint64_t *value, size_t value_length,
+    uint64_t *imports, size_t imports_length,
+    uint8_t *number, size_t *place);
+
+/*
+ * The Leontief inverse, and the power and the sensitivity of dispersion of its sectors. Asks 1, 2, 7, 9.
+ *
+ * Takes domestic coefficients d, n * n cells, and the rounds allowed for each column.
+ * Gives in sheet, n * n cells, the inverse, whose column j is the production settled from a demand of one in sector j; in power and
+ * sensitivity, n cells each, each column sum and each row sum against their mean, in millionths; in *rounds the largest count of a column.
+ * A refusal sets every cell of sheet, power and sensitivity to 0.
+ */
+void tawqeshim_inverse(
+    size_t n,
+    const uint64_t *d, size_t d_length,
+    uint32_t budget,
+    uint64_t *sheet, size_t sheet_length,
+    uint64_t *power, size_t power_length,
+    uint64_t *sensitivity, size_t sensitivity_length,
+    uint8_t *number, size_t *place, uint32_t *rounds);
+
+/*
+ * A sector's row of a sheet of n * n cells: the cells sheet[*start] to sheet[*start + *length - 1]. It has no number.
+ *
+ * Gives sector * n and n. Where n is not from 1 to 40, the sheet has not n * n cells or the sector is not below n, gives 0 and 0.
+ */
+void tawqeshim_row(
+    size_t n,
+    const uint64_t *sheet, size_t sheet_length,
+    size_t sector,
+    size_t *start, size_t *length);
+
+/*
+ * Reads a table file of any bytes. Asks 2, then 11, 12, 13, 14, 15 of each record in turn.
+ *
+ * Takes the bytes of the file. The lengths that 2 asks for are fixed: 1,600 cells for x, 40 for each of the six columns, 46 for marks.
+ * Gives x, whose row i starts at cell i * n; final_demand, exports, imports, value_added, production and rises; n in *sectors, and in
+ * *named how many cells the file names. Cells that are not named are 0. Amounts are not checked here: tawqeshim_coefficients asks 3.
+ * A refusal sets every cell of x and of the six columns to 0. Every cell of marks, which are work, is 0 after every call.
+ */
+void tawqeshim_read_table(
+    const uint8_t *file, size_t file_length,
+    uint64_t *x, size_t x_length,
+    uint64_t *final_demand, size_t final_demand_length,
+    uint64_t *exports, size_t exports_length,
+    uint64_t *imports, size_t imports_length,
+    uint64_t *value_added, size_t value_added_length,
+    uint64_t *production, size_t production_length,
+    uint64_t *rises, size_t rises_length,
+    uint64_t *marks, size_t marks_length,
+    uint8_t *number, size_t *place, size_t *sectors, size_t *named);
+
+#ifdef __cplusplus
+}
+#endif
+
+#endif

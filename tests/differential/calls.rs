@@ -1,0 +1,422 @@
+//! The calls as data: one case is one call with all its inputs and lent lengths. A case is
+//! answered twice, by the reference and by the library, and the two outcomes are compared.
+
+use crate::reference;
+
+/// Whether the call `tawqeshim_page` is compared too.
+pub const PAGE: bool = false;
+/// The bytes that `tawqeshim_page` asks for.
+pub const PAGE_BYTES: usize = 2_851;
+
+#[derive(Clone, Copy, Debug, PartialEq, Eq)]
+pub enum Call {
+    Coefficients,
+    Production,
+    Price,
+    ImpliedDemand,
+    Induced,
+    Inverse,
+    Row,
+    ReadTable,
+    Page,
+}
+
+pub const CALLS: [Call; 9] = [
+    Call::Coefficients,
+    Call::Production,
+    Call::Price,
+    Call::ImpliedDemand,
+    Call::Induced,
+    Call::Inverse,
+    Call::Row,
+    Call::ReadTable,
+    Call::Page,
+];
+
+impl Call {
+    pub fn name(self) -> &'static str {
+        match self {
+            Call::Coefficients => "coefficients",
+            Call::Production => "production",
+            Call::Price => "price",
+            Call::ImpliedDemand => "implied_demand",
+            Call::Induced => "induced",
+            Call::Inverse => "inverse",
+            Call::Row => "row",
+            Call::ReadTable => "read_table",
+            Call::Page => "page",
+        }
+    }
+
+    /// The numbers the call can give. A row gives none; here 0 stands for a stretch, 1 for none.
+    /// A page cannot give 1, 2 and 8, and 9 only if some table needs over 1,400 rounds.
+    pub fn numbers(self) -> &'static [u8] {
+        match self {
+            Call::Coefficients => &[0, 1, 2, 3, 4, 5, 6, 7],
+            Call::Production | Call::Price => &[0, 1, 2, 7, 8, 9],
+            Call::ImpliedDemand => &[0, 1, 2, 7, 8, 10],
+            Call::Induced => &[0, 1, 2, 3, 8],
+            Call::Inverse => &[0, 1, 2, 7, 9],
+            Call::Row => &[0, 1],
+            Call::ReadTable => &[0, 2, 11, 12, 13, 14, 15],
+            Call::Page => &[0, 3, 4, 5, 6, 7, 11, 12, 13, 14, 15],
+        }
+    }
+
+    /// The exact lengths of the input slices.
+    pub fn given_lengths(self, n: usize) -> Vec<usize> {
+        match self {
+            Call::Coefficients => vec![n * n, n, n, n, n, n],
+            Call::Production | Call::Price | Call::ImpliedDemand => vec![n * n, n],
+            Call::Induced => vec![n * n, n, n, n, n],
+            Call::Inverse | Call::Row => vec![n * n],
+            Call::ReadTable | Call::Page => vec![],
+        }
+    }
+
+    /// The exact lengths of the output and work slices.
+    pub fn lent_lengths(self, n: usize) -> Vec<usize> {
+        match self {
+            Call::Coefficients => vec![n * n, n, n, n * n, n],
+            Call::Production | Call::Price | Call::Induced => vec![n, n],
+            Call::ImpliedDemand => vec![n],
+            Call::Inverse => vec![n * n, n, n],
+            Call::Row => vec![],
+            Call::ReadTable => reference::FILE_LENGTHS.to_vec(),
+            Call::Page => vec![PAGE_BYTES],
+        }
+    }
+}
+
+/// One call: what it is given, and the lengths of the slices it is lent.
+#[derive(Clone, Debug)]
+pub struct Case {
+    pub call: Call,
+    pub n: usize,
+    pub budget: u32,
+    pub sector: usize,
+    pub file: Vec<u8>,
+    pub given: Vec<Vec<u64>>,
+    pub lent: Vec<usize>,
+}
+
+impl Case {
+    /// A case with exact lengths; budget, sector and file are set by who needs them.
+    pub fn new(call: Call, n: usize, given: Vec<Vec<u64>>) -> Case {
+        let lent = call.lent_lengths(n);
+        Case { call, n, budget: 0, sector: 0, file: vec![], given, lent }
+    }
+
+    pub fn of_file(call: Call, file: Vec<u8>) -> Case {
+        Case { file, ..Case::new(call, 0, vec![]) }
+    }
+
+    /// How much there is to read in a report of the case.
+    pub fn size(&self) -> usize {
+        self.file.len() + self.given.iter().map(Vec::len).sum::<usize>() + self.lent.len()
+    }
+}
+
+/// Everything a caller can see after a call.
+#[derive(Clone, Debug, PartialEq, Eq)]
+pub struct Outcome {
+    pub number: u8,
+    pub place: usize,
+    pub counts: [usize; 2],
+    pub cells: Vec<Vec<u64>>,
+    pub printed: Vec<u8>,
+}
+
+/// What lies in lent cells before a call.
+fn junk(k: usize) -> u64 {
+    (k as u64 + 1).wrapping_mul(0x9e37_79b9_7f4a_7c15) | 1
+}
+
+fn junk_bytes(length: usize) -> Vec<u8> {
+    (0..length).map(|k| (junk(k) >> 56) as u8 | 1).collect()
+}
+
+/// The outcome the paper gives.
+pub fn by_reference(case: &Case) -> Outcome {
+    let Case { call, n, budget, given, lent, .. } = case;
+    let answer = match call {
+        Call::Coefficients => reference::coefficients(
+            *n, &given[0], &given[1], &given[2], &given[3], &given[4], &given[5], lent,
+        ),
+        Call::Production => reference::production(*n, &given[0], &given[1], *budget, lent),
+        Call::Price => reference::price(*n, &given[0], &given[1], *budget, lent),
+        Call::ImpliedDemand => reference::implied_demand(*n, &given[0], &given[1], lent),
+        Call::Induced => reference::induced(
+            *n, &given[0], &given[1], &given[2], &given[3], &given[4], lent,
+        ),
+        Call::Inverse => reference::inverse(*n, &given[0], *budget, lent),
+        Call::ReadTable => reference::read_table(&case.file, lent),
+        Call::Row => {
+            let (start, length) = reference::row(*n, &given[0], case.sector);
+            Ok(reference::Given { cells: vec![], counts: [start, length] })
+        }
+        Call::Page => return page_by_reference(case),
+    };
+    match answer {
+        Ok(given) => Outcome {
+            number: 0,
+            place: 0,
+            counts: given.counts,
+            cells: given.cells,
+            printed: vec![],
+        },
+        Err(no) => Outcome {
+            number: no.number,
+            place: no.place,
+            counts: [0, 0],
+            cells: lent.iter().map(|length| vec![0; *length]).collect(),
+            printed: vec![],
+        },
+    }
+}
+
+fn page_by_reference(case: &Case) -> Outcome {
+    let mut printed = junk_bytes(case.lent[0]);
+    let mut length = 0;
+    if case.lent[0] >= PAGE_BYTES {
+        let page = reference::page(&case.file);
+        length = page.len();
+        printed[..length].copy_from_slice(&page);
+    }
+    Outcome { number: 0, place: 0, counts: [length, 0], cells: vec![], printed }
+}
+
+/// The number to count a case under: the outcome's, or what a row or a page shows.
+pub fn number_seen(case: &Case, outcome: &Outcome) -> u8 {
+    match case.call {
+        Call::Row => u8::from(outcome.counts[1] == 0),
+        Call::Page => {
+            let page = String::from_utf8_lossy(&outcome.printed[..outcome.counts[0]]);
+            let mut words = page.split_whitespace();
+            match words.next() {
+                Some("refused") => words.next().and_then(|word| word.parse().ok()).unwrap_or(0),
+                _ => 0,
+            }
+        }
+        _ => outcome.number,
+    }
+}
+
+// Every slice is its pointer and its length in elements.
+#[link(name = "tawqeshim", kind = "dylib")]
+extern "C" {
+    fn tawqeshim_coefficients(
+        n: usize,
+        x: *const u64, x_length: usize,
+        final_demand: *const u64, final_demand_length: usize,
+        exports: *const u64, exports_length: usize,
+        imports: *const u64, imports_length: usize,
+        value_added: *const u64, value_added_length: usize,
+        production: *const u64, production_length: usize,
+        a: *mut u64, a_length: usize,
+        v: *mut u64, v_length: usize,
+        m: *mut u64, m_length: usize,
+        d: *mut u64, d_length: usize,
+        f: *mut u64, f_length: usize,
+        number: *mut u8,
+        place: *mut usize,
+    );
+    fn tawqeshim_production(
+        n: usize,
+        d: *const u64, d_length: usize,
+        f: *const u64, f_length: usize,
+        budget: u32,
+        out: *mut u64, out_length: usize,
+        work: *mut u64, work_length: usize,
+        number: *mut u8,
+        place: *mut usize,
+        rounds: *mut u32,
+    );
+    fn tawqeshim_price(
+        n: usize,
+        d: *const u64, d_length: usize,
+        w: *const u64, w_length: usize,
+        budget: u32,
+        out: *mut u64, out_length: usize,
+        work: *mut u64, work_length: usize,
+        number: *mut u8,
+        place: *mut usize,
+        rounds: *mut u32,
+    );
+    fn tawqeshim_implied_demand(
+        n: usize,
+        d: *const u64, d_length: usize,
+        production: *const u64, production_length: usize,
+        out: *mut u64, out_length: usize,
+        number: *mut u8,
+        place: *mut usize,
+    );
+    fn tawqeshim_induced(
+        n: usize,
+        a: *const u64, a_length: usize,
+        m: *const u64, m_length: usize,
+        v: *const u64, v_length: usize,
+        final_demand: *const u64, final_demand_length: usize,
+        production: *const u64, production_length: usize,
+        value: *mut u64, value_length: usize,
+        imports: *mut u64, imports_length: usize,
+        number: *mut u8,
+        place: *mut usize,
+    );
+    fn tawqeshim_inverse(
+        n: usize,
+        d: *const u64, d_length: usize,
+        budget: u32,
+        sheet: *mut u64, sheet_length: usize,
+        power: *mut u64, power_length: usize,
+        sensitivity: *mut u64, sensitivity_length: usize,
+        number: *mut u8,
+        place: *mut usize,
+        rounds: *mut u32,
+    );
+    fn tawqeshim_row(
+        n: usize,
+        sheet: *const u64, sheet_length: usize,
+        sector: usize,
+        start: *mut usize,
+        length: *mut usize,
+    );
+    fn tawqeshim_read_table(
+        file: *const u8, file_length: usize,
+        x: *mut u64, x_length: usize,
+        final_demand: *mut u64, final_demand_length: usize,
+        exports: *mut u64, exports_length: usize,
+        imports: *mut u64, imports_length: usize,
+        value_added: *mut u64, value_added_length: usize,
+        production: *mut u64, production_length: usize,
+        rises: *mut u64, rises_length: usize,
+        marks: *mut u64, marks_length: usize,
+        number: *mut u8,
+        place: *mut usize,
+        sectors: *mut usize,
+        named: *mut usize,
+    );
+    fn tawqeshim_page(
+        file: *const u8, file_length: usize,
+        out: *mut u8, out_length: usize,
+    ) -> usize;
+}
+
+/// Cells kept on both sides of every lent slice; a call must leave them alone.
+const GUARD: usize = 3;
+
+/// The outcome the library gives. An error names an input or a foreign cell that was changed.
+pub fn by_library(case: &Case) -> Result<Outcome, &'static str> {
+    let given = case.given.clone();
+    let file = case.file.clone();
+    let g = |k: usize| given[k].as_ptr();
+    let gl = |k: usize| given[k].len();
+
+    if case.call == Call::Page {
+        return page_by_library(case, &file);
+    }
+    let mut lent: Vec<Vec<u64>> =
+        case.lent.iter().map(|length| (0..length + 2 * GUARD).map(junk).collect()).collect();
+    let starts: Vec<*mut u64> =
+        lent.iter_mut().map(|cells| cells[GUARD..].as_mut_ptr()).collect();
+    let l = |k: usize| starts[k];
+    let ll = |k: usize| case.lent[k];
+
+    let n = case.n;
+    let (mut number, mut place) = (0xa5_u8, 0xa5a5_a5a5_usize);
+    let mut rounds = 0xa5a5_a5a5_u32;
+    let mut counts = [0xa5a5_a5a5_usize; 2];
+    unsafe {
+        match case.call {
+            Call::Coefficients => {
+                tawqeshim_coefficients(
+                    n, g(0), gl(0), g(1), gl(1), g(2), gl(2), g(3), gl(3), g(4), gl(4), g(5), gl(5),
+                    l(0), ll(0), l(1), ll(1), l(2), ll(2), l(3), ll(3), l(4), ll(4),
+                    &mut number, &mut place,
+                );
+                counts = [0, 0];
+            }
+            Call::Production => {
+                tawqeshim_production(
+                    n, g(0), gl(0), g(1), gl(1), case.budget, l(0), ll(0), l(1), ll(1),
+                    &mut number, &mut place, &mut rounds,
+                );
+                counts = [rounds as usize, 0];
+            }
+            Call::Price => {
+                tawqeshim_price(
+                    n, g(0), gl(0), g(1), gl(1), case.budget, l(0), ll(0), l(1), ll(1),
+                    &mut number, &mut place, &mut rounds,
+                );
+                counts = [rounds as usize, 0];
+            }
+            Call::ImpliedDemand => {
+                tawqeshim_implied_demand(
+                    n, g(0), gl(0), g(1), gl(1), l(0), ll(0), &mut number, &mut place,
+                );
+                counts = [0, 0];
+            }
+            Call::Induced => {
+                tawqeshim_induced(
+                    n, g(0), gl(0), g(1), gl(1), g(2), gl(2), g(3), gl(3), g(4), gl(4),
+                    l(0), ll(0), l(1), ll(1), &mut number, &mut place,
+                );
+                counts = [0, 0];
+            }
+            Call::Inverse => {
+                tawqeshim_inverse(
+                    n, g(0), gl(0), case.budget, l(0), ll(0), l(1), ll(1), l(2), ll(2),
+                    &mut number, &mut place, &mut rounds,
+                );
+                counts = [rounds as usize, 0];
+            }
+            Call::Row => {
+                let [start, length] = &mut counts;
+                tawqeshim_row(n, g(0), gl(0), case.sector, start, length);
+                (number, place) = (0, 0);
+            }
+            Call::ReadTable => {
+                let [sectors, named] = &mut counts;
+                tawqeshim_read_table(
+                    file.as_ptr(), file.len(),
+                    l(0), ll(0), l(1), ll(1), l(2), ll(2), l(3), ll(3),
+                    l(4), ll(4), l(5), ll(5), l(6), ll(6), l(7), ll(7),
+                    &mut number, &mut place, sectors, named,
+                );
+            }
+            Call::Page => unreachable!(),
+        }
+    }
+    if given != case.given || file != case.file {
+        return Err("an input changed");
+    }
+    for cells in &lent {
+        let inside = GUARD..cells.len() - GUARD;
+        if (0..cells.len()).any(|k| !inside.contains(&k) && cells[k] != junk(k)) {
+            return Err("a cell beyond a lent slice changed");
+        }
+    }
+    let cells = lent.iter().map(|cells| cells[GUARD..cells.len() - GUARD].to_vec()).collect();
+    Ok(Outcome { number, place, counts, cells, printed: vec![] })
+}
+
+fn page_by_library(case: &Case, file: &[u8]) -> Result<Outcome, &'static str> {
+    let length = case.lent[0];
+    let mut out = vec![0xa5; GUARD];
+    out.extend(junk_bytes(length));
+    out.extend([0xa5; GUARD]);
+    let mut written = 0;
+    if PAGE {
+        let start = out[GUARD..].as_mut_ptr();
+        written = unsafe { tawqeshim_page(file.as_ptr(), file.len(), start, length) };
+    }
+    if file != case.file {
+        return Err("an input changed");
+    }
+    let printed = out[GUARD..GUARD + length].to_vec();
+    let kept = out[..GUARD].iter().chain(&out[GUARD + length..]).all(|byte| *byte == 0xa5);
+    if !kept {
+        return Err("a byte beyond the lent slice changed");
+    }
+    Ok(Outcome { number: 0, place: 0, counts: [written, 0], cells: vec![], printed })
+}

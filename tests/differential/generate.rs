@@ -1,0 +1,902 @@
+//! Pseudo-random cases: valid, nearly valid and hostile. A case depends on its index alone.
+
+use crate::calls::{by_reference, Call, Case, PAGE, PAGE_BYTES};
+use crate::reference::{self, SECTORS};
+
+const AMOUNT: u64 = reference::AMOUNT_LIMIT as u64;
+const ONE: u64 = reference::ONE as u64;
+const COLUMN: u64 = reference::COLUMN_LIMIT as u64;
+const DEMAND: u64 = reference::DEMAND_LIMIT as u64;
+const RISE: u64 = reference::RISE_LIMIT as u64;
+const PRODUCTION: u64 = reference::PRODUCTION_LIMIT as u64;
+
+/// Xorshift, 64 bits.
+pub struct Rng(u64);
+
+impl Rng {
+    /// One stream for each index.
+    pub fn new(seed: u64, index: u64) -> Rng {
+        let mut z = seed.wrapping_add((index + 1).wrapping_mul(0x9e37_79b9_7f4a_7c15));
+        z = (z ^ (z >> 30)).wrapping_mul(0xbf58_476d_1ce4_e5b9);
+        z = (z ^ (z >> 27)).wrapping_mul(0x94d0_49bb_1331_11eb);
+        Rng((z ^ (z >> 31)) | 1)
+    }
+
+    pub fn next(&mut self) -> u64 {
+        self.0 ^= self.0 >> 12;
+        self.0 ^= self.0 << 25;
+        self.0 ^= self.0 >> 27;
+        self.0.wrapping_mul(0x2545_f491_4f6c_dd1d)
+    }
+
+    /// 0 to `most`, both included.
+    pub fn upto(&mut self, most: u64) -> u64 {
+        if most == u64::MAX { self.next() } else { (self.next() >> 1) % (most + 1) }
+    }
+
+    pub fn between(&mut self, least: u64, most: u64) -> u64 {
+        least + self.upto(most - least)
+    }
+
+    /// Below `n`, which is not 0.
+    pub fn below(&mut self, n: usize) -> usize {
+        self.upto(n as u64 - 1) as usize
+    }
+
+    /// True `part` times of `whole`.
+    pub fn chance(&mut self, part: u64, whole: u64) -> bool {
+        self.upto(whole - 1) < part
+    }
+
+    pub fn of<T: Copy>(&mut self, list: &[T]) -> T {
+        list[self.below(list.len())]
+    }
+
+    /// First, last or any place of a list that is not empty.
+    pub fn spot(&mut self, length: usize) -> usize {
+        match self.below(3) {
+            0 => 0,
+            1 => length - 1,
+            _ => self.below(length),
+        }
+    }
+
+    /// A number of any magnitude up to `most`.
+    pub fn magnitude(&mut self, most: u64) -> u64 {
+        let bits = 64 - most.leading_zeros() as u64;
+        let most_here = if bits == 0 { 0 } else { most >> self.upto(bits) };
+        self.upto(most_here)
+    }
+}
+
+/// Sizes: most small; 13, 37 and 40 now and then.
+fn size(rng: &mut Rng) -> usize {
+    match rng.below(100) {
+        0..=77 => 1 + rng.below(6),
+        78..=89 => 7 + rng.below(6),
+        90..=92 => 13,
+        93..=94 => 37,
+        95..=96 => SECTORS,
+        _ => 1 + rng.below(SECTORS),
+    }
+}
+
+/// Sizes for calls that go round: large ones rarer.
+fn round_size(rng: &mut Rng) -> usize {
+    if rng.chance(1, 4) { size(rng) } else { 1 + rng.below(5) }
+}
+
+fn strange_n(rng: &mut Rng) -> usize {
+    match rng.below(6) {
+        0 => 0,
+        1 => 41,
+        2 => usize::MAX,
+        3 => 1 << 32,
+        4 => 41 + rng.below(60),
+        _ => rng.next() as usize,
+    }
+}
+
+fn strange_cell(rng: &mut Rng) -> u64 {
+    match rng.below(5) {
+        0 => u64::MAX,
+        1 => 1 << 63,
+        2 => u64::MAX - rng.upto(2_000_000),
+        3 => 1 << 32,
+        _ => rng.next(),
+    }
+}
+
+fn budget(rng: &mut Rng) -> u32 {
+    match rng.below(12) {
+        0 => 0,
+        1 => 1 + rng.below(20) as u32,
+        2..=4 => u32::MAX,
+        _ => 1400,
+    }
+}
+
+// ---------------------------------------------------------------------------------------------
+// Domestic sheets
+// ---------------------------------------------------------------------------------------------
+
+/// A whole amount split over the cells at random.
+fn split(rng: &mut Rng, whole: u64, cells: usize) -> Vec<u64> {
+    let mut cuts: Vec<u64> = (1..cells).map(|_| rng.upto(whole)).collect();
+    cuts.push(0);
+    cuts.push(whole);
+    cuts.sort_unstable();
+    cuts.windows(2).map(|pair| pair[1] - pair[0]).collect()
+}
+
+fn permutation(rng: &mut Rng, n: usize) -> Vec<usize> {
+    let mut list: Vec<usize> = (0..n).collect();
+    shuffle(rng, &mut list);
+    list
+}
+
+fn shuffle<T>(rng: &mut Rng, list: &mut [T]) {
+    for k in (1..list.len()).rev() {
+        list.swap(k, rng.below(k + 1));
+    }
+}
+
+/// An accepted domestic sheet.
+pub fn domestic(rng: &mut Rng, n: usize) -> Vec<u64> {
+    let mut d = vec![0; n * n];
+    // The column sums: most are small enough to settle soon.
+    let most = match rng.below(16) {
+        0 => COLUMN,
+        1..=3 => 900_000,
+        4..=6 => 600_000,
+        _ => 350_000,
+    };
+    let exactly = rng.chance(1, 4);
+    match rng.below(12) {
+        0 => {}
+        // A ring: each sector buys from the next alone.
+        1 => (0..n).for_each(|j| d[(j + 1) % n * n + j] = most),
+        // A diagonal.
+        2 => (0..n).for_each(|j| d[j * n + j] = rng.upto(most)),
+        // Rows and columns with one sum.
+        3 => {
+            for weight in split(rng, most, 3) {
+                for (i, j) in permutation(rng, n).into_iter().enumerate() {
+                    d[i * n + j] += weight;
+                }
+            }
+        }
+        // Few cells.
+        4 => {
+            for j in 0..n {
+                d[rng.below(n) * n + j] = if exactly { most } else { rng.upto(most) };
+            }
+        }
+        // Below the diagonal.
+        5 => {
+            for j in 0..n {
+                let whole = rng.upto(most);
+                for (k, part) in split(rng, whole, n - j).into_iter().enumerate() {
+                    d[(j + k) * n + j] = part;
+                }
+            }
+        }
+        // One sector that sells to all.
+        6 => {
+            let i = rng.spot(n);
+            (0..n).for_each(|j| d[i * n + j] = most);
+        }
+        _ => {
+            for j in 0..n {
+                let whole = if exactly { most } else { rng.upto(most) };
+                for (i, part) in split(rng, whole, n).into_iter().enumerate() {
+                    d[i * n + j] = part;
+                }
+            }
+        }
+    }
+    d
+}
+
+/// A column of the sheet at its limit, or one over it, or far over it, or over it past 64 bits.
+fn press_column(rng: &mut Rng, n: usize, d: &mut [u64]) {
+    let j = rng.spot(n);
+    let i = rng.spot(n);
+    let whole = COLUMN + rng.upto(1);
+    match rng.below(5) {
+        0 | 1 => {
+            for (k, part) in split(rng, whole, n).into_iter().enumerate() {
+                d[k * n + j] = part;
+            }
+        }
+        2 => {
+            (0..n).for_each(|k| d[k * n + j] = 0);
+            d[i * n + j] = whole;
+        }
+        3 => d[i * n + j] = strange_cell(rng),
+        _ => {
+            // The sum of the column passes 2^64 and would come out small.
+            let rest = (0..n).filter(|k| *k != i).map(|k| d[k * n + j]);
+            let rest = rest.fold(0, u64::wrapping_add);
+            d[i * n + j] = rng.upto(COLUMN).wrapping_sub(rest);
+            if n > 1 {
+                let k = (i + 1 + rng.below(n - 1)) % n;
+                d[k * n + j] = d[k * n + j].wrapping_add(1 << 63);
+                d[i * n + j] = d[i * n + j].wrapping_add(1 << 63);
+            }
+        }
+    }
+}
+
+/// Starting amounts up to the limit; sometimes one over it or far over it.
+fn starts(rng: &mut Rng, n: usize, limit: u64) -> Vec<u64> {
+    let mut list: Vec<u64> = match rng.below(8) {
+        0 => vec![0; n],
+        1 => vec![limit; n],
+        2 | 3 => (0..n).map(|_| rng.upto(40)).collect(),
+        4 => (0..n).map(|_| rng.upto(limit)).collect(),
+        5 => {
+            let mut list = vec![0; n];
+            list[rng.spot(n)] = rng.magnitude(limit);
+            list
+        }
+        _ => (0..n).map(|_| rng.magnitude(limit)).collect(),
+    };
+    match rng.below(14) {
+        0 => list[rng.spot(n)] = limit,
+        1 => list[rng.spot(n)] = limit + 1,
+        2 => list[rng.spot(n)] = strange_cell(rng),
+        _ => {}
+    }
+    list
+}
+
+/// A given production: a running total at the limit, one over it or far over it now and then.
+fn productions(rng: &mut Rng, n: usize) -> Vec<u64> {
+    let most = PRODUCTION / n as u64;
+    let mut list: Vec<u64> = match rng.below(6) {
+        0 => vec![0; n],
+        1 => vec![rng.magnitude(most); n],
+        2 => vec![most; n],
+        3 => (0..n).map(|_| rng.upto(2_000)).collect(),
+        _ => (0..n).map(|_| rng.magnitude(most)).collect(),
+    };
+    let at = rng.spot(n);
+    let before: u64 = list[..at].iter().sum();
+    match rng.below(12) {
+        0 | 1 => {
+            list[at] = PRODUCTION - before;
+            list[at + 1..].fill(0);
+        }
+        2 => list[at] = PRODUCTION - before + 1,
+        3 => list[at] = strange_cell(rng),
+        // The running total passes 2^64 and would come out small.
+        4 => list[at] = before.wrapping_neg(),
+        _ => {}
+    }
+    list
+}
+
+fn rounds_case(rng: &mut Rng, call: Call) -> Case {
+    let n = round_size(rng);
+    let mut d = domestic(rng, n);
+    if rng.chance(1, 8) {
+        press_column(rng, n, &mut d);
+    }
+    let limit = if call == Call::Price { RISE } else { DEMAND };
+    let start = starts(rng, n, limit);
+    let mut case = Case { budget: budget(rng), ..Case::new(call, n, vec![d, start]) };
+    if rng.chance(1, 6) {
+        tight_budget(rng, &mut case);
+    }
+    case
+}
+
+/// The budget exactly at the count, or one below it.
+fn tight_budget(rng: &mut Rng, case: &mut Case) {
+    let asked = Case { budget: u32::MAX, ..case.clone() };
+    let outcome = by_reference(&asked);
+    if outcome.number == 0 {
+        case.budget = outcome.counts[0] as u32 - rng.upto(1) as u32;
+    }
+}
+
+fn implied_case(rng: &mut Rng) -> Case {
+    let n = if rng.chance(1, 4) { size(rng) } else { 1 + rng.below(5) };
+    let mut d = domestic(rng, n);
+    let mut production = productions(rng, n);
+    // A settled production, or one next to it.
+    if rng.chance(1, 3) && n <= 6 {
+        let start: Vec<u64> = (0..n).map(|_| rng.magnitude(DEMAND)).collect();
+        if let Some((settled, _)) = reference::settle(n, &d, &start, 3000) {
+            production = settled;
+            match rng.below(4) {
+                0 => production[rng.spot(n)] += 1,
+                1 => {
+                    let at = rng.spot(n);
+                    production[at] = production[at].saturating_sub(1);
+                }
+                _ => {}
+            }
+        }
+    }
+    if rng.chance(1, 8) {
+        press_column(rng, n, &mut d);
+    }
+    Case::new(Call::ImpliedDemand, n, vec![d, production])
+}
+
+fn induced_case(rng: &mut Rng) -> Case {
+    let n = if rng.chance(1, 3) { size(rng) } else { 1 + rng.below(5) };
+    let lengths = Call::Induced.given_lengths(n);
+    let mut given: Vec<Vec<u64>> = Vec::new();
+    for (slice, length) in lengths.iter().enumerate() {
+        let limit = if slice == 3 { AMOUNT } else { ONE };
+        let list = match rng.below(4) {
+            0 => vec![limit; *length],
+            1 => (0..*length).map(|_| rng.magnitude(limit)).collect(),
+            _ => (0..*length).map(|_| rng.upto(limit)).collect(),
+        };
+        given.push(list);
+    }
+    given[4] = productions(rng, n);
+    for _ in 0..2 {
+        if rng.chance(1, 5) {
+            let slice = rng.below(4);
+            let limit = if slice == 3 { AMOUNT } else { ONE };
+            let at = rng.spot(given[slice].len());
+            given[slice][at] = match rng.below(3) {
+                0 => limit,
+                1 => limit + 1,
+                _ => strange_cell(rng),
+            };
+        }
+    }
+    Case::new(Call::Induced, n, given)
+}
+
+fn inverse_case(rng: &mut Rng) -> Case {
+    let n = if rng.chance(1, 20) { size(rng) } else { 1 + rng.below(5) };
+    let mut d = domestic(rng, n);
+    if rng.chance(1, 8) {
+        press_column(rng, n, &mut d);
+    }
+    let mut case = Case { budget: budget(rng), ..Case::new(Call::Inverse, n, vec![d]) };
+    if n < 13 && rng.chance(1, 5) {
+        tight_budget(rng, &mut case);
+    }
+    case
+}
+
+fn row_case(rng: &mut Rng) -> Case {
+    let n = size(rng);
+    let sheet = (0..n * n).map(|_| rng.next()).collect();
+    let sector = match rng.below(8) {
+        0 => n,
+        1 => usize::MAX,
+        2 => n + rng.below(50),
+        3 => rng.next() as usize,
+        _ => rng.spot(n),
+    };
+    Case { sector, ..Case::new(Call::Row, n, vec![sheet]) }
+}
+
+// ---------------------------------------------------------------------------------------------
+// Tables
+// ---------------------------------------------------------------------------------------------
+
+/// A table: x, F, E, M, V, X, in the interface's order.
+type Table = Vec<Vec<u64>>;
+const FINAL: usize = 1;
+const EXPORTS: usize = 2;
+const IMPORTS: usize = 3;
+const VALUE: usize = 4;
+const OUTPUT: usize = 5;
+
+fn row_sum(table: &Table, n: usize, i: usize) -> u64 {
+    table[0][i * n..(i + 1) * n].iter().sum()
+}
+
+fn column_sum(table: &Table, n: usize, j: usize) -> u64 {
+    (0..n).map(|i| table[0][i * n + j]).sum()
+}
+
+/// Chooses X, V and M so that x, F and E balance; raises F where they cannot.
+fn balance(rng: &mut Rng, n: usize, table: &mut Table, cap: u64) {
+    for i in 0..n {
+        let (row, column) = (row_sum(table, n, i), column_sum(table, n, i));
+        let exports = table[EXPORTS][i];
+        let short = column.saturating_sub(row + exports + table[FINAL][i]);
+        table[FINAL][i] += short;
+        let used = row + exports + table[FINAL][i];
+        // Imports within domestic need: X at least E. Imports within the cap: X at least used - cap.
+        let least = exports.max(column).max(used.saturating_sub(cap));
+        let most = used.min(cap).max(least);
+        let output = match rng.below(8) {
+            0 => least,
+            1 => most,
+            2 => least + rng.magnitude(most - least),
+            3..=5 => most - rng.magnitude(most - least),
+            _ => rng.between(least, most),
+        };
+        table[OUTPUT][i] = output;
+        table[VALUE][i] = output.saturating_sub(column);
+        table[IMPORTS][i] = used.saturating_sub(output);
+    }
+}
+
+/// A table that balances: x, F and E are drawn, the rest is chosen.
+fn drawn_table(rng: &mut Rng, n: usize) -> Table {
+    let mut table = vec![vec![0; n * n], vec![0; n], vec![0; n], vec![0; n], vec![0; n], vec![0; n]];
+    let scale = match rng.below(6) {
+        0 => 3,
+        1 => 1_000,
+        2 => 1_000_000,
+        3 => AMOUNT / (3 * n as u64),
+        _ => 100_000,
+    };
+    let full = rng.between(1, 4);
+    for cell in &mut table[0] {
+        if rng.chance(full, 4) {
+            *cell = rng.upto(scale);
+        }
+    }
+    let (inside, outside) = (rng.upto(2 * scale * n as u64), rng.upto(scale));
+    let (inside, outside) = (inside.min(AMOUNT / 3), outside.min(AMOUNT / 3));
+    for i in 0..n {
+        table[FINAL][i] = rng.upto(inside);
+        table[EXPORTS][i] = if rng.chance(1, 2) { rng.upto(outside) } else { 0 };
+    }
+    // A sector that nobody sells to or buys from.
+    if rng.chance(1, 8) {
+        let k = rng.spot(n);
+        let (row, column) = (rng.chance(2, 3), rng.chance(2, 3));
+        for other in 0..n {
+            if row {
+                table[0][k * n + other] = 0;
+                table[FINAL][k] = 0;
+                table[EXPORTS][k] = 0;
+            }
+            if column {
+                table[0][other * n + k] = 0;
+            }
+        }
+    }
+    balance(rng, n, &mut table, AMOUNT);
+    table
+}
+
+/// A table without imports whose column sums are 950,000, or one column one over.
+fn pressed_table(rng: &mut Rng, n: usize) -> Table {
+    let mut table = vec![vec![0; n * n], vec![0; n], vec![0; n], vec![0; n], vec![0; n], vec![0; n]];
+    let unit = rng.between(1, 1_000);
+    for weight in split(rng, COLUMN, 3) {
+        for (i, j) in permutation(rng, n).into_iter().enumerate() {
+            table[0][i * n + j] += weight * unit;
+        }
+    }
+    if rng.chance(1, 2) {
+        let (i, j) = (rng.spot(n), rng.spot(n));
+        table[0][i * n + j] += unit;
+    }
+    for i in 0..n {
+        let rest = ONE * unit - row_sum(&table, n, i);
+        table[EXPORTS][i] = if rng.chance(1, 2) { rng.upto(rest) } else { 0 };
+        table[FINAL][i] = rest - table[EXPORTS][i];
+        table[VALUE][i] = ONE * unit - column_sum(&table, n, i);
+        table[OUTPUT][i] = ONE * unit;
+    }
+    table
+}
+
+/// A balanced table with one cell at 1,000,000,000, or at one over.
+fn capped_table(rng: &mut Rng, n: usize) -> Table {
+    let mut table = vec![vec![0; n * n], vec![0; n], vec![0; n], vec![0; n], vec![0; n], vec![0; n]];
+    let small = rng.upto(1_000);
+    for slice in [0, FINAL, EXPORTS] {
+        for cell in &mut table[slice] {
+            *cell = rng.upto(small);
+        }
+    }
+    let cap = AMOUNT + rng.upto(1);
+    let k = rng.spot(n);
+    let clear_column = |table: &mut Table, j: usize| {
+        (0..n).for_each(|i| table[0][i * n + j] = 0);
+    };
+    match rng.below(6) {
+        // x: the whole of the column; the row is imported as far as need be.
+        0 => {
+            let i = rng.spot(n);
+            clear_column(&mut table, k);
+            table[0][i * n + k] = cap;
+            if i != k {
+                table[FINAL][k] = cap - row_sum(&table, n, k) - table[EXPORTS][k];
+            }
+            for j in 0..n {
+                if j != k {
+                    table[0][i * n + j] = 0;
+                }
+            }
+            table[FINAL][i] = table[FINAL][i].min(if i == k { 0 } else { small });
+            balance(rng, n, &mut table, cap);
+        }
+        FINAL => {
+            table[FINAL][k] = cap;
+            balance(rng, n, &mut table, cap);
+        }
+        EXPORTS => {
+            table[EXPORTS][k] = cap;
+            balance(rng, n, &mut table, cap);
+        }
+        IMPORTS => {
+            clear_column(&mut table, k);
+            table[FINAL][k] = cap - row_sum(&table, n, k);
+            balance(rng, n, &mut table, cap);
+            table[OUTPUT][k] = table[EXPORTS][k];
+            table[VALUE][k] = table[EXPORTS][k] - column_sum(&table, n, k);
+            table[IMPORTS][k] = cap;
+        }
+        VALUE => {
+            clear_column(&mut table, k);
+            table[FINAL][k] = cap;
+            balance(rng, n, &mut table, cap);
+            table[IMPORTS][k] = row_sum(&table, n, k) + table[EXPORTS][k];
+            table[VALUE][k] = cap;
+            table[OUTPUT][k] = cap;
+        }
+        _ => {
+            table[FINAL][k] = cap;
+            balance(rng, n, &mut table, cap);
+            table[IMPORTS][k] = row_sum(&table, n, k) + table[EXPORTS][k];
+            table[OUTPUT][k] = cap;
+            table[VALUE][k] = cap - column_sum(&table, n, k);
+        }
+    }
+    table
+}
+
+fn table(rng: &mut Rng, n: usize) -> Table {
+    match rng.below(8) {
+        0 => pressed_table(rng, n),
+        1 => capped_table(rng, n),
+        _ => drawn_table(rng, n),
+    }
+}
+
+fn nudge(rng: &mut Rng, cell: &mut u64) {
+    *cell = if rng.chance(1, 2) { cell.wrapping_add(1) } else { cell.saturating_sub(1) };
+}
+
+/// Breaks one thing in a table.
+fn spoil_table(rng: &mut Rng, n: usize, table: &mut Table) {
+    let k = rng.spot(n);
+    match rng.below(8) {
+        // A cell at the limit, over it, or far over it.
+        0 | 1 => {
+            let slice = rng.below(6);
+            let at = rng.spot(table[slice].len());
+            table[slice][at] = match rng.below(3) {
+                0 => AMOUNT,
+                1 => AMOUNT + 1,
+                _ => strange_cell(rng),
+            };
+        }
+        2 => nudge(rng, &mut table[VALUE][k]),
+        3 => nudge(rng, &mut table[OUTPUT][k]),
+        4 => {
+            let slice = rng.of(&[FINAL, EXPORTS, IMPORTS]);
+            nudge(rng, &mut table[slice][k]);
+        }
+        5 => {
+            let at = rng.spot(n * n);
+            nudge(rng, &mut table[0][at]);
+        }
+        // Imports up to domestic need exactly, or one over; exports keep the row balanced.
+        6 => {
+            let row: u64 = table[0][k * n..(k + 1) * n].iter().fold(0, |sum, x| sum.wrapping_add(*x));
+            let need = row.wrapping_add(table[FINAL][k]);
+            let more = need.wrapping_sub(table[IMPORTS][k]).wrapping_add(rng.upto(1));
+            table[IMPORTS][k] = table[IMPORTS][k].wrapping_add(more);
+            table[EXPORTS][k] = table[EXPORTS][k].wrapping_add(more);
+        }
+        // Two sectors that fail, to see the first taken.
+        _ => {
+            let slice = rng.of(&[FINAL, EXPORTS, IMPORTS, VALUE, OUTPUT]);
+            let other = rng.below(n);
+            nudge(rng, &mut table[slice][k]);
+            nudge(rng, &mut table[slice][other]);
+        }
+    }
+}
+
+fn coefficients_case(rng: &mut Rng) -> Case {
+    let n = size(rng);
+    let mut given = table(rng, n);
+    if rng.chance(1, 3) {
+        for _ in 0..rng.between(1, 2) {
+            spoil_table(rng, n, &mut given);
+        }
+    }
+    Case::new(Call::Coefficients, n, given)
+}
+
+// ---------------------------------------------------------------------------------------------
+// Table files
+// ---------------------------------------------------------------------------------------------
+
+fn record(kind: u8, sectors: &[usize], amount: u64) -> Vec<u8> {
+    let mut record = vec![kind];
+    record.extend(sectors.iter().map(|sector| *sector as u8));
+    record.extend((amount as u32).to_be_bytes());
+    record
+}
+
+/// Every cell of a table as a record; zeros too where the call asks.
+fn table_records(n: usize, table: &Table, zeros: bool) -> Vec<Vec<u8>> {
+    let mut records = Vec::new();
+    for (k, amount) in table[0].iter().enumerate() {
+        if zeros || *amount != 0 {
+            records.push(record(2, &[k / n + 1, k % n + 1], *amount));
+        }
+    }
+    for slice in 1..=5 {
+        for (k, amount) in table[slice].iter().enumerate() {
+            if zeros || *amount != 0 {
+                records.push(record(slice as u8 + 2, &[k + 1], *amount));
+            }
+        }
+    }
+    records
+}
+
+/// Records of random cells, each named once.
+fn random_records(rng: &mut Rng, n: usize) -> Vec<Vec<u8>> {
+    let part = rng.of(&[0, 1, 2, 5, 10, 10]);
+    let most = rng.of(&[0, 300, AMOUNT, AMOUNT + 1, u64::from(u32::MAX)]);
+    let mut records = Vec::new();
+    for k in 0..n * n {
+        if rng.chance(part, 10) {
+            records.push(record(2, &[k / n + 1, k % n + 1], rng.upto(most)));
+        }
+    }
+    for kind in [3, 4, 5, 6, 7, 9] {
+        for k in 0..n {
+            if rng.chance(part, 10) {
+                records.push(record(kind, &[k + 1], rng.upto(most)));
+            }
+        }
+    }
+    records
+}
+
+fn joined(n: usize, records: &[Vec<u8>]) -> Vec<u8> {
+    let mut file = vec![1, n as u8];
+    file.extend(records.iter().flatten());
+    file.push(8);
+    file
+}
+
+/// Breaks one thing among the records.
+fn spoil_records(rng: &mut Rng, n: usize, records: &mut Vec<Vec<u8>>) {
+    if records.is_empty() {
+        records.push(record(3, &[1], 5));
+    }
+    let at = rng.spot(records.len());
+    match rng.below(6) {
+        // A record repeated, with the same amount or another.
+        0 | 1 => {
+            let mut again = records[at].clone();
+            if rng.chance(1, 2) {
+                *again.last_mut().unwrap() ^= 1;
+            }
+            let to = rng.between(at as u64 + 1, records.len() as u64) as usize;
+            let to = if rng.chance(1, 3) { rng.below(records.len() + 1) } else { to };
+            records.insert(to, again);
+        }
+        // A sector byte outside 1 to n.
+        2 | 3 => {
+            let byte = if records[at][0] == 2 { 1 + rng.below(2) } else { 1 };
+            records[at][byte] = match rng.below(4) {
+                0 => 0,
+                1 => n as u8 + 1,
+                2 => 255,
+                _ => rng.next() as u8,
+            };
+        }
+        // A kind that is none, or another.
+        4 => records[at][0] = rng.of(&[0, 10, 255, 8, 1, 2, 9, 128]),
+        // The number of sectors again.
+        _ => {
+            let again = vec![1, if rng.chance(1, 2) { n as u8 } else { rng.next() as u8 }];
+            let to = rng.below(records.len() + 1);
+            records.insert(to, again);
+        }
+    }
+}
+
+/// Breaks one thing in the bytes.
+fn spoil_file(rng: &mut Rng, file: &mut Vec<u8>) {
+    match rng.below(9) {
+        0 => file.truncate(rng.below(file.len() + 1)),
+        1 => file.truncate(file.len().saturating_sub(1 + rng.below(8))),
+        // The end left out.
+        2 => {
+            file.pop();
+        }
+        // Bytes after the end.
+        3 => file.push(rng.of(&[0, 8, 1, 255])),
+        4 => {
+            let copy: Vec<u8> = file.iter().skip(rng.below(3)).copied().collect();
+            file.extend(copy);
+        }
+        5 => file[1] = rng.of(&[0, 41, 255, 40, 1, 128]),
+        6 => {
+            file.drain(..2.min(file.len()));
+        }
+        7 => {
+            let at = rng.below(file.len());
+            file[at] ^= 1 << rng.below(8);
+        }
+        _ => {
+            let at = rng.below(file.len());
+            file[at] = rng.next() as u8;
+        }
+    }
+}
+
+/// Random bytes, or random records in the right shape.
+fn random_file(rng: &mut Rng) -> Vec<u8> {
+    let mut file = Vec::new();
+    match rng.below(4) {
+        0 => {
+            let length = rng.magnitude(600);
+            file.extend((0..length).map(|_| rng.next() as u8));
+        }
+        1 => {
+            let length = rng.upto(12);
+            file.extend((0..length).map(|_| rng.upto(10) as u8));
+        }
+        _ => {
+            let n = rng.between(1, 6);
+            file.extend([1, n as u8]);
+            for _ in 0..rng.upto(12) {
+                let kind = rng.of(&[2, 2, 2, 3, 4, 5, 6, 7, 9]);
+                let sectors: Vec<usize> =
+                    (0..if kind == 2 { 2 } else { 1 }).map(|_| 1 + rng.below(n as usize)).collect();
+                file.extend(record(kind, &sectors, rng.next()));
+            }
+            if rng.chance(3, 4) {
+                file.push(8);
+            }
+        }
+    }
+    file
+}
+
+fn file(rng: &mut Rng, tables: bool) -> Vec<u8> {
+    if rng.chance(1, 6) {
+        return random_file(rng);
+    }
+    let n = if rng.chance(1, 4) { size(rng) } else { 1 + rng.below(5) };
+    let mut records = if tables {
+        let mut table = table(rng, n);
+        if rng.chance(1, 4) {
+            spoil_table(rng, n, &mut table);
+        }
+        table_records(n, &table, rng.chance(1, 2))
+    } else {
+        random_records(rng, n)
+    };
+    if rng.chance(2, 3) {
+        shuffle(rng, &mut records);
+    }
+    if rng.chance(1, 4) {
+        spoil_records(rng, n, &mut records);
+    }
+    let mut file = joined(n, &records);
+    if rng.chance(1, 5) {
+        spoil_file(rng, &mut file);
+    }
+    file
+}
+
+fn read_case(rng: &mut Rng) -> Case {
+    Case::of_file(Call::ReadTable, file(rng, false))
+}
+
+fn page_case(rng: &mut Rng) -> Case {
+    let mut case = Case::of_file(Call::Page, file(rng, true));
+    case.lent[0] = match rng.below(10) {
+        0 => PAGE_BYTES - 1,
+        1 => rng.below(PAGE_BYTES),
+        2 => 0,
+        3 => PAGE_BYTES + rng.below(500),
+        _ => PAGE_BYTES,
+    };
+    case
+}
+
+// ---------------------------------------------------------------------------------------------
+// Hostile lengths and sizes, and the mix of the calls
+// ---------------------------------------------------------------------------------------------
+
+/// One slice, given or lent, with another length.
+fn bend_length(rng: &mut Rng, case: &mut Case) {
+    let given = case.given.len();
+    let slice = rng.below(given + case.lent.len());
+    let length = if slice < given { case.given[slice].len() } else { case.lent[slice - given] };
+    let other = match rng.below(6) {
+        0 => 0,
+        1 => length.saturating_sub(1),
+        2 => length + 1,
+        3 => 2 * length,
+        4 => case.n.min(SECTORS),
+        _ => rng.below(2 * length + 2),
+    };
+    if slice < given {
+        let fill = if rng.chance(1, 2) { 0 } else { rng.next() };
+        case.given[slice].resize(other, fill);
+    } else {
+        case.lent[slice - given] = other;
+    }
+}
+
+/// An n outside 1 to 40, with the slices of the old one, of the new one, or of none.
+fn bend_n(rng: &mut Rng, case: &mut Case) {
+    case.n = strange_n(rng);
+    if case.n <= 41 && rng.chance(2, 3) {
+        for (slice, length) in case.given.iter_mut().zip(case.call.given_lengths(case.n)) {
+            slice.resize(length, 0);
+        }
+        case.lent = case.call.lent_lengths(case.n);
+    } else if rng.chance(1, 4) {
+        case.given.iter_mut().for_each(Vec::clear);
+        case.lent.iter_mut().for_each(|length| *length = 0);
+    }
+}
+
+/// A ring of 40 at the limit: over 1,000 rounds. One sector has a unit more than the others, and
+/// that unit goes round the ring up to 19 times before nothing changes.
+fn long_ring(rng: &mut Rng) -> Case {
+    let n = SECTORS;
+    let mut d = vec![0; n * n];
+    (0..n).for_each(|j| d[(j + 1) % n * n + j] = COLUMN);
+    let call = rng.of(&[Call::Production, Call::Price]);
+    let limit = if call == Call::Price { RISE } else { DEMAND };
+    let mut start = vec![rng.of(&[limit - 1, limit - 20, limit / 3]); n];
+    start[rng.below(n)] += 1;
+    if rng.chance(1, 4) {
+        start = starts(rng, n, limit);
+    }
+    Case { budget: rng.of(&[u32::MAX, 1400, 1000]), ..Case::new(call, n, vec![d, start]) }
+}
+
+pub fn case(seed: u64, index: u64) -> Case {
+    let mut random = Rng::new(seed, index);
+    let rng = &mut random;
+    if index % 2_000 == 0 {
+        return long_ring(rng);
+    }
+    let mut case = match rng.below(if PAGE { 108 } else { 100 }) {
+        0..=23 => coefficients_case(rng),
+        24..=43 => rounds_case(rng, Call::Production),
+        44..=55 => rounds_case(rng, Call::Price),
+        56..=67 => implied_case(rng),
+        68..=77 => induced_case(rng),
+        78..=82 => inverse_case(rng),
+        83..=85 => row_case(rng),
+        86..=99 => read_case(rng),
+        _ => page_case(rng),
+    };
+    let by_size = !matches!(case.call, Call::ReadTable | Call::Page);
+    if case.call != Call::Page && rng.chance(1, 12) {
+        bend_length(rng, &mut case);
+        if rng.chance(1, 4) {
+            bend_length(rng, &mut case);
+        }
+    }
+    if by_size && rng.chance(1, 25) {
+        bend_n(rng, &mut case);
+    }
+    case
+}

@@ -1,0 +1,158 @@
+//! Differential test: the library, through its C interface, against the paper.
+//!
+//! `differential [cases]` first runs the paper's worked cases, then as many pseudo-random cases
+//! (2,000,000 unless told otherwise), then settled amounts against exact balances. The seed is
+//! fixed and a case depends on its index alone, so every run is the same.
+
+mod calls;
+mod exact;
+mod generate;
+mod reference;
+mod worked;
+
+use calls::{by_library, by_reference, number_seen, Call, Case, CALLS, PAGE};
+use std::process::exit;
+
+const SEED: u64 = 0x7461_7771_6573_6869;
+const CASES: u64 = 2_000_000;
+const THREADS: u64 = 2;
+const SHEETS: usize = 10_000;
+
+/// What a run has seen: cases for each call and number, the most rounds, and what differs.
+struct Tally {
+    cases: u64,
+    seen: [[u64; 16]; CALLS.len()],
+    most_rounds: usize,
+    differences: u64,
+    smallest: Vec<(Case, String)>,
+}
+
+impl Tally {
+    fn new() -> Tally {
+        Tally {
+            cases: 0,
+            seen: [[0; 16]; CALLS.len()],
+            most_rounds: 0,
+            differences: 0,
+            smallest: vec![],
+        }
+    }
+
+    fn case(&mut self, name: &str, case: Case) {
+        let paper = by_reference(&case);
+        self.cases += 1;
+        self.seen[case.call as usize][usize::from(number_seen(&case, &paper))] += 1;
+        if matches!(case.call, Call::Production | Call::Price | Call::Inverse) {
+            self.most_rounds = self.most_rounds.max(paper.counts[0]);
+        }
+        let told = match by_library(&case) {
+            Ok(library) if library == paper => return,
+            Ok(library) => format!("{name}: paper {paper:?}, library {library:?}"),
+            Err(what) => format!("{name}: {what}"),
+        };
+        self.differences += 1;
+        self.keep(case, told);
+    }
+
+    /// The smallest differing case of each call.
+    fn keep(&mut self, case: Case, told: String) {
+        match self.smallest.iter_mut().find(|(other, _)| other.call == case.call) {
+            None => self.smallest.push((case, told)),
+            Some(kept) if case.size() < kept.0.size() => *kept = (case, told),
+            Some(_) => {}
+        }
+    }
+
+    fn add(&mut self, other: Tally) {
+        self.cases += other.cases;
+        self.most_rounds = self.most_rounds.max(other.most_rounds);
+        self.differences += other.differences;
+        for (row, theirs) in self.seen.iter_mut().zip(other.seen) {
+            for (count, more) in row.iter_mut().zip(theirs) {
+                *count += more;
+            }
+        }
+        for (case, told) in other.smallest {
+            self.keep(case, told);
+        }
+    }
+}
+
+/// The worked cases and slips through the reference. Returns how many are wrong.
+fn self_test() -> u64 {
+    let mut all = 0;
+    let mut wrong = 0;
+    for (name, case, expected) in worked::cases() {
+        all += 1;
+        let got = by_reference(&case);
+        if got != expected {
+            wrong += 1;
+            println!("{name}: paper {expected:?}, reference {got:?}");
+        }
+    }
+    for (name, right) in worked::slips() {
+        all += 1;
+        if !right {
+            wrong += 1;
+            println!("{name}: wrong");
+        }
+    }
+    println!("reference: {all} worked cases, {wrong} wrong");
+    wrong
+}
+
+fn main() {
+    let cases = match std::env::args().nth(1) {
+        None => CASES,
+        Some(word) => word.parse().expect("the number of cases"),
+    };
+    let wrong = self_test();
+    let mut tally = Tally::new();
+    for (name, case, _) in worked::cases() {
+        tally.case(name, case);
+    }
+    if PAGE {
+        tally.case("the printed sheet", worked::page());
+    }
+    std::thread::scope(|scope| {
+        let part = |thread| {
+            let mut tally = Tally::new();
+            for index in (thread..cases).step_by(THREADS as usize) {
+                tally.case(&format!("case {index}"), generate::case(SEED, index));
+            }
+            tally
+        };
+        let threads: Vec<_> = (0..THREADS).map(|k| scope.spawn(move || part(k))).collect();
+        for thread in threads {
+            tally.add(thread.join().expect("a thread of the test"));
+        }
+    });
+    let exact = exact::run(SEED, SHEETS);
+
+    for (case, told) in &tally.smallest {
+        println!("{told}\n  {case:?}");
+    }
+    let mut unseen = 0;
+    for call in CALLS.into_iter().filter(|call| PAGE || *call != Call::Page) {
+        let seen = &tally.seen[call as usize];
+        let counts: Vec<String> = (0..16)
+            .filter(|number| seen[*number] > 0 || call.numbers().contains(&(*number as u8)))
+            .map(|number| format!("{number}: {}", seen[number]))
+            .collect();
+        println!("{:<15} {}", call.name(), counts.join("  "));
+        for number in call.numbers().iter().filter(|number| seen[usize::from(**number)] == 0) {
+            unseen += 1;
+            println!("{}: number {number} was never seen", call.name());
+        }
+    }
+    println!("most rounds: {}", tally.most_rounds);
+    println!(
+        "exact balances: {} sheets, {} pairs of demands, {} broken",
+        exact.sheets, exact.pairs, exact.broken
+    );
+    let differences = tally.differences + wrong + unseen + exact.broken as u64;
+    println!("differential: {} cases, {differences} differences", tally.cases);
+    if differences > 0 {
+        exit(1);
+    }
+}

@@ -1,0 +1,522 @@
+//! The paper "The competitive-import sheets", call by call, written from its words alone.
+//!
+//! Plain and slow on purpose: sums are u128, every list is a fresh vector, nothing is shared
+//! with the library. A call takes its inputs and the lengths of the slices lent to it. It gives
+//! the cells of those slices after the call, in the interface's order, or a refusal.
+
+pub const ONE: u128 = 1_000_000;
+pub const SECTORS: usize = 40;
+pub const AMOUNT_LIMIT: u128 = 1_000_000_000;
+pub const COLUMN_LIMIT: u128 = 950_000;
+pub const DEMAND_LIMIT: u128 = 2_000_000_000;
+pub const RISE_LIMIT: u128 = 1_000_000_000;
+pub const PRODUCTION_LIMIT: u128 = 1_600_000_000_000;
+/// "The table file": 1,600 cells for x, 40 for each of six columns, 46 work words.
+pub const FILE_LENGTHS: [usize; 8] = [1600, 40, 40, 40, 40, 40, 40, 46];
+/// "The printed sheet": the program's budget.
+pub const PAGE_BUDGET: u32 = 1_400;
+
+/// A refusal: the number of the first question answered no, and its place.
+#[derive(Clone, Copy, Debug, PartialEq, Eq)]
+pub struct Refusal {
+    pub number: u8,
+    pub place: usize,
+}
+
+/// An acceptance: every lent slice after the call, and the counts of the answer.
+#[derive(Clone, Debug, PartialEq, Eq)]
+pub struct Given {
+    pub cells: Vec<Vec<u64>>,
+    pub counts: [usize; 2],
+}
+
+type Asked = Result<(), Refusal>;
+
+fn refuse(number: u8, place: usize) -> Asked {
+    Err(Refusal { number, place })
+}
+
+/// The sum of a list.
+fn total(cells: impl Iterator<Item = u64>) -> u128 {
+    cells.map(u128::from).sum()
+}
+
+/// Row i of a sheet, "row by row".
+fn row_of(sheet: &[u64], n: usize, i: usize) -> impl Iterator<Item = u64> + '_ {
+    sheet[i * n..(i + 1) * n].iter().copied()
+}
+
+/// Column j of a sheet.
+fn column_of(sheet: &[u64], n: usize, j: usize) -> impl Iterator<Item = u64> + '_ {
+    (0..n).map(move |i| sheet[i * n + j])
+}
+
+/// A result of a definition as a cell; the accepted ranges keep every result far below 2^64.
+fn cell(value: u128) -> u64 {
+    u64::try_from(value).expect("a result beyond 64 bits")
+}
+
+// ---------------------------------------------------------------------------------------------
+// "Questions a call asks, in this order"
+// ---------------------------------------------------------------------------------------------
+
+/// Question 1: is n from 1 to 40? Place 0.
+fn question_1(n: usize) -> Asked {
+    if n >= 1 && n <= SECTORS { Ok(()) } else { refuse(1, 0) }
+}
+
+/// Question 2: has every lent slice its exact length? Place 0.
+fn question_2(lengths: &[(usize, usize)]) -> Asked {
+    if lengths.iter().all(|(length, exact)| length == exact) { Ok(()) } else { refuse(2, 0) }
+}
+
+/// Question 3: is every cell within its limit? The place counts the cells on through the slices.
+fn question_3(slices: &[(&[u64], u128)]) -> Asked {
+    let mut place = 0;
+    for (slice, limit) in slices {
+        for value in *slice {
+            if u128::from(*value) > *limit {
+                return refuse(3, place);
+            }
+            place += 1;
+        }
+    }
+    Ok(())
+}
+
+/// Question 4: does every column balance? The place is the first failing column.
+fn question_4(n: usize, x: &[u64], value_added: &[u64], production: &[u64]) -> Asked {
+    for j in 0..n {
+        if total(column_of(x, n, j)) + u128::from(value_added[j]) != u128::from(production[j]) {
+            return refuse(4, j);
+        }
+    }
+    Ok(())
+}
+
+/// Question 5: does every row balance? The place is the first failing row.
+fn question_5(
+    n: usize,
+    x: &[u64],
+    final_demand: &[u64],
+    exports: &[u64],
+    imports: &[u64],
+    production: &[u64],
+) -> Asked {
+    for i in 0..n {
+        let used = total(row_of(x, n, i)) + u128::from(final_demand[i]) + u128::from(exports[i]);
+        let supplied = u128::from(production[i]) + u128::from(imports[i]);
+        if used != supplied {
+            return refuse(5, i);
+        }
+    }
+    Ok(())
+}
+
+/// Question 6: are a sector's imports at most its domestic need? The place is the first failing row.
+fn question_6(n: usize, x: &[u64], final_demand: &[u64], imports: &[u64]) -> Asked {
+    for i in 0..n {
+        if u128::from(imports[i]) > domestic_need(n, x, final_demand, i) {
+            return refuse(6, i);
+        }
+    }
+    Ok(())
+}
+
+/// Question 7: is every column sum of domestic coefficients at most 950,000? First failing column.
+fn question_7(n: usize, d: &[u64]) -> Asked {
+    for j in 0..n {
+        if total(column_of(d, n, j)) > COLUMN_LIMIT {
+            return refuse(7, j);
+        }
+    }
+    Ok(())
+}
+
+/// Question 8 for demands and direct rises: the first sector whose amount is too large.
+fn question_8_each(amounts: &[u64], limit: u128) -> Asked {
+    for (i, amount) in amounts.iter().enumerate() {
+        if u128::from(*amount) > limit {
+            return refuse(8, i);
+        }
+    }
+    Ok(())
+}
+
+/// Question 8 for a given production: the first sector whose running total is too large.
+fn question_8_total(production: &[u64]) -> Asked {
+    let mut running = 0;
+    for (i, amount) in production.iter().enumerate() {
+        running += u128::from(*amount);
+        if running > PRODUCTION_LIMIT {
+            return refuse(8, i);
+        }
+    }
+    Ok(())
+}
+
+// ---------------------------------------------------------------------------------------------
+// "The table and its units", "The sheets, all rounded down"
+// ---------------------------------------------------------------------------------------------
+
+/// Domestic need: the sum over j of x(i,j), plus F(i); exports are not in it.
+fn domestic_need(n: usize, x: &[u64], final_demand: &[u64], i: usize) -> u128 {
+    total(row_of(x, n, i)) + u128::from(final_demand[i])
+}
+
+/// An amount as millionths of a whole, rounded down; 0 where the whole is 0.
+fn share(amount: u64, whole: u128) -> u128 {
+    if whole == 0 { 0 } else { u128::from(amount) * ONE / whole }
+}
+
+/// Sheets from a table: a, v, m, d, f. Asks 1 to 7.
+pub fn coefficients(
+    n: usize,
+    x: &[u64],
+    final_demand: &[u64],
+    exports: &[u64],
+    imports: &[u64],
+    value_added: &[u64],
+    production: &[u64],
+    lent: &[usize],
+) -> Result<Given, Refusal> {
+    question_1(n)?;
+    question_2(&[
+        (x.len(), n * n),
+        (final_demand.len(), n),
+        (exports.len(), n),
+        (imports.len(), n),
+        (value_added.len(), n),
+        (production.len(), n),
+        (lent[0], n * n),
+        (lent[1], n),
+        (lent[2], n),
+        (lent[3], n * n),
+        (lent[4], n),
+    ])?;
+    question_3(&[
+        (x, AMOUNT_LIMIT),
+        (final_demand, AMOUNT_LIMIT),
+        (exports, AMOUNT_LIMIT),
+        (imports, AMOUNT_LIMIT),
+        (value_added, AMOUNT_LIMIT),
+        (production, AMOUNT_LIMIT),
+    ])?;
+    question_4(n, x, value_added, production)?;
+    question_5(n, x, final_demand, exports, imports, production)?;
+    question_6(n, x, final_demand, imports)?;
+
+    let mut a = vec![0; n * n];
+    let mut v = vec![0; n];
+    let mut m = vec![0; n];
+    let mut d = vec![0; n * n];
+    let mut f = vec![0; n];
+    for i in 0..n {
+        for j in 0..n {
+            a[i * n + j] = cell(share(x[i * n + j], u128::from(production[j])));
+        }
+    }
+    for j in 0..n {
+        v[j] = cell(share(value_added[j], u128::from(production[j])));
+    }
+    for i in 0..n {
+        m[i] = cell(share(imports[i], domestic_need(n, x, final_demand, i)));
+    }
+    for i in 0..n {
+        for j in 0..n {
+            d[i * n + j] = cell((ONE - u128::from(m[i])) * u128::from(a[i * n + j]) / ONE);
+        }
+    }
+    for i in 0..n {
+        let inside = (ONE - u128::from(m[i])) * u128::from(final_demand[i]) / ONE;
+        f[i] = cell(inside + u128::from(exports[i]));
+    }
+    question_7(n, &d)?;
+    Ok(Given { cells: vec![a, v, m, d, f], counts: [0, 0] })
+}
+
+// ---------------------------------------------------------------------------------------------
+// "Rounds"
+// ---------------------------------------------------------------------------------------------
+
+/// The whole sum of coefficient times amount along row i, divided once by one and rounded down.
+fn taken(n: usize, sheet: &[u64], amounts: &[u64], i: usize) -> u128 {
+    let mut sum: u128 = 0;
+    for j in 0..n {
+        sum += u128::from(sheet[i * n + j]) * u128::from(amounts[j]);
+    }
+    sum / ONE
+}
+
+/// A round: start(i) plus what is taken, every sector from the amounts of the round before.
+pub fn round(n: usize, sheet: &[u64], start: &[u64], amounts: &[u64]) -> Vec<u64> {
+    (0..n).map(|i| cell(u128::from(start[i]) + taken(n, sheet, amounts, i))).collect()
+}
+
+/// The first round that changes no sector settles; the count includes it. None beyond the budget.
+pub fn settle(n: usize, sheet: &[u64], start: &[u64], budget: u32) -> Option<(Vec<u64>, u32)> {
+    let mut amounts = start.to_vec();
+    let mut count = 0;
+    while count < budget {
+        count += 1;
+        let next = round(n, sheet, start, &amounts);
+        if next == amounts {
+            return Some((amounts, count));
+        }
+        amounts = next;
+    }
+    None
+}
+
+/// The sheet read down its columns.
+pub fn turned(n: usize, sheet: &[u64]) -> Vec<u64> {
+    (0..n).flat_map(|j| column_of(sheet, n, j)).collect()
+}
+
+/// Production from demand. Asks 1, 2, 7, 8, 9. Lent: production, work.
+pub fn production(
+    n: usize,
+    d: &[u64],
+    f: &[u64],
+    budget: u32,
+    lent: &[usize],
+) -> Result<Given, Refusal> {
+    question_1(n)?;
+    question_2(&[(d.len(), n * n), (f.len(), n), (lent[0], n), (lent[1], n)])?;
+    question_7(n, d)?;
+    question_8_each(f, DEMAND_LIMIT)?;
+    let (settled, count) = settle(n, d, f, budget).ok_or(Refusal { number: 9, place: 0 })?;
+    Ok(Given { cells: vec![settled, vec![0; n]], counts: [count as usize, 0] })
+}
+
+/// "Prices": as production, the sum running down the column. Asks 1, 2, 7, 8, 9. Lent: rise, work.
+pub fn price(
+    n: usize,
+    d: &[u64],
+    w: &[u64],
+    budget: u32,
+    lent: &[usize],
+) -> Result<Given, Refusal> {
+    question_1(n)?;
+    question_2(&[(d.len(), n * n), (w.len(), n), (lent[0], n), (lent[1], n)])?;
+    question_7(n, d)?;
+    question_8_each(w, RISE_LIMIT)?;
+    let columns = turned(n, d);
+    let (settled, count) = settle(n, &columns, w, budget).ok_or(Refusal { number: 9, place: 0 })?;
+    Ok(Given { cells: vec![settled, vec![0; n]], counts: [count as usize, 0] })
+}
+
+/// "Backwards": production less what industry takes. Asks 1, 2, 7, 8, 10. Lent: demand.
+pub fn implied_demand(
+    n: usize,
+    d: &[u64],
+    production: &[u64],
+    lent: &[usize],
+) -> Result<Given, Refusal> {
+    question_1(n)?;
+    question_2(&[(d.len(), n * n), (production.len(), n), (lent[0], n)])?;
+    question_7(n, d)?;
+    question_8_total(production)?;
+    let mut demand = vec![0; n];
+    for i in 0..n {
+        // Question 10: the first row whose demand would be below 0.
+        match u128::from(production[i]).checked_sub(taken(n, d, production, i)) {
+            Some(rest) => demand[i] = cell(rest),
+            None => return Err(Refusal { number: 10, place: i }),
+        }
+    }
+    Ok(Given { cells: vec![demand], counts: [0, 0] })
+}
+
+/// Induced value added and imports. Asks 1, 2, 3, 8. Lent: value, imports.
+pub fn induced(
+    n: usize,
+    a: &[u64],
+    m: &[u64],
+    v: &[u64],
+    final_demand: &[u64],
+    production: &[u64],
+    lent: &[usize],
+) -> Result<Given, Refusal> {
+    question_1(n)?;
+    question_2(&[
+        (a.len(), n * n),
+        (m.len(), n),
+        (v.len(), n),
+        (final_demand.len(), n),
+        (production.len(), n),
+        (lent[0], n),
+        (lent[1], n),
+    ])?;
+    question_3(&[(a, ONE), (m, ONE), (v, ONE), (final_demand, AMOUNT_LIMIT)])?;
+    question_8_total(production)?;
+    let mut value = vec![0; n];
+    let mut imports = vec![0; n];
+    for j in 0..n {
+        value[j] = cell(u128::from(v[j]) * u128::from(production[j]) / ONE);
+    }
+    for i in 0..n {
+        let need = taken(n, a, production, i);
+        imports[i] = cell(u128::from(m[i]) * (need + u128::from(final_demand[i])) / ONE);
+    }
+    Ok(Given { cells: vec![value, imports], counts: [0, 0] })
+}
+
+/// The inverse sheet with its ratios. Asks 1, 2, 7, 9. Lent: sheet, influence, sensitivity.
+pub fn inverse(n: usize, d: &[u64], budget: u32, lent: &[usize]) -> Result<Given, Refusal> {
+    question_1(n)?;
+    question_2(&[(d.len(), n * n), (lent[0], n * n), (lent[1], n), (lent[2], n)])?;
+    question_7(n, d)?;
+    let mut sheet = vec![0; n * n];
+    let mut largest = 0;
+    for j in 0..n {
+        let mut demand = vec![0; n];
+        demand[j] = cell(ONE);
+        let (column, count) = settle(n, d, &demand, budget).ok_or(Refusal { number: 9, place: j })?;
+        for i in 0..n {
+            sheet[i * n + j] = column[i];
+        }
+        largest = largest.max(count);
+    }
+    let all = total(sheet.iter().copied());
+    let ratio = |sum: u128| cell(sum * n as u128 * ONE / all);
+    let influence = (0..n).map(|j| ratio(total(column_of(&sheet, n, j)))).collect();
+    let sensitivity = (0..n).map(|i| ratio(total(row_of(&sheet, n, i)))).collect();
+    Ok(Given { cells: vec![sheet, influence, sensitivity], counts: [largest as usize, 0] })
+}
+
+/// A sector's row: start and length of the stretch of the caller's own sheet; 0 and 0 where empty.
+pub fn row(n: usize, sheet: &[u64], sector: usize) -> (usize, usize) {
+    let asked = question_1(n).and_then(|()| question_2(&[(sheet.len(), n * n)]));
+    if asked.is_err() || sector >= n { (0, 0) } else { (sector * n, n) }
+}
+
+// ---------------------------------------------------------------------------------------------
+// "The table file"
+// ---------------------------------------------------------------------------------------------
+
+/// Question 11, first half: the length of a kind's body; None if the kind is not 1 to 9.
+fn body_length(kind: u8) -> Option<usize> {
+    match kind {
+        1 => Some(1),
+        2 => Some(6),
+        3..=7 | 9 => Some(5),
+        8 => Some(0),
+        _ => None,
+    }
+}
+
+/// 4 bytes, highest first.
+fn amount(bytes: &[u8]) -> u64 {
+    bytes.iter().fold(0, |before, byte| before * 256 + u64::from(*byte))
+}
+
+/// The reader. Asks 2, then 11 to 15 of each record.
+/// Lent: x, F, E, M, V, X, rises, marks. Counts: n, named cells.
+pub fn read_table(file: &[u8], lent: &[usize]) -> Result<Given, Refusal> {
+    let lengths: Vec<_> = lent.iter().copied().zip(FILE_LENGTHS).collect();
+    question_2(&lengths)?;
+    let mut cells: Vec<Vec<u64>> = FILE_LENGTHS.iter().map(|length| vec![0; *length]).collect();
+    let mut seen: Vec<Vec<bool>> = FILE_LENGTHS.iter().map(|length| vec![false; *length]).collect();
+    let mut n = 0;
+    let mut named = 0;
+    let mut offset = 0;
+    loop {
+        let no = |number, place| Err(Refusal { number, place });
+        // Question 15: no end came.
+        if offset == file.len() {
+            return no(15, offset);
+        }
+        // Question 11.
+        let kind = file[offset];
+        let Some(length) = body_length(kind) else { return no(11, offset) };
+        let after = offset + 1 + length;
+        if after > file.len() {
+            return no(11, offset);
+        }
+        let body = &file[offset + 1..after];
+        // Question 12.
+        if offset == 0 {
+            if kind != 1 || body[0] < 1 || usize::from(body[0]) > SECTORS {
+                return no(12, offset);
+            }
+            n = usize::from(body[0]);
+        } else if kind == 1 {
+            return no(12, offset);
+        }
+        // Question 13.
+        let sector_bytes = match kind {
+            1 | 8 => 0,
+            2 => 2,
+            _ => 1,
+        };
+        let sectors: Vec<usize> = body[..sector_bytes].iter().map(|byte| usize::from(*byte)).collect();
+        if sectors.iter().any(|sector| *sector < 1 || *sector > n) {
+            return no(13, offset);
+        }
+        // Question 14. Lent slice 0 is x; kinds 3 to 7 are slices 1 to 5; kind 9 is slice 6.
+        if kind != 1 && kind != 8 {
+            let (slice, at) = match kind {
+                2 => (0, (sectors[0] - 1) * n + (sectors[1] - 1)),
+                9 => (6, sectors[0] - 1),
+                _ => (usize::from(kind) - 2, sectors[0] - 1),
+            };
+            if seen[slice][at] {
+                return no(14, offset);
+            }
+            seen[slice][at] = true;
+            cells[slice][at] = amount(&body[sector_bytes..]);
+            named += 1;
+        }
+        // Question 15: kind 8, with no byte after it.
+        if kind == 8 {
+            if after != file.len() {
+                return no(15, after);
+            }
+            return Ok(Given { cells, counts: [n, named] });
+        }
+        offset = after;
+    }
+}
+
+// ---------------------------------------------------------------------------------------------
+// "The printed sheet"
+// ---------------------------------------------------------------------------------------------
+
+/// From the bytes of a table file to the bytes printed.
+pub fn page(file: &[u8]) -> Vec<u8> {
+    match page_lines(file) {
+        Ok(lines) => lines,
+        Err(no) => format!("refused {} {}\n", no.number, no.place),
+    }
+    .into_bytes()
+}
+
+fn page_lines(file: &[u8]) -> Result<String, Refusal> {
+    let table = read_table(file, &FILE_LENGTHS)?;
+    let n = table.counts[0];
+    let x = &table.cells[0][..n * n];
+    let column = |slice: usize| &table.cells[slice][..n];
+    let final_demand = column(1);
+    let sheets = coefficients(
+        n,
+        x,
+        final_demand,
+        column(2),
+        column(3),
+        column(4),
+        column(5),
+        &[n * n, n, n, n * n, n],
+    )?;
+    let [a, v, m, d, f] = &sheets.cells[..] else { unreachable!() };
+    let settled = production(n, d, f, PAGE_BUDGET, &[n, n])?;
+    let amounts = &settled.cells[0];
+    let induced = induced(n, a, m, v, final_demand, amounts, &[n, n])?;
+    let mut lines = String::from("sector demand production value imports\n");
+    for i in 0..n {
+        let (value, imports) = (induced.cells[0][i], induced.cells[1][i]);
+        lines += &format!("{} {} {} {} {}\n", i + 1, f[i], amounts[i], value, imports);
+    }
+    lines += &format!("rounds {}\n", settled.counts[0]);
+    Ok(lines)
+}

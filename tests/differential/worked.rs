@@ -1,0 +1,194 @@
+//! The paper's worked cases P1 to P12, its slips and its printed sheet, with the paper's numbers.
+
+use crate::calls::{Call, Case, Outcome, PAGE_BYTES};
+use crate::reference::{self, ONE};
+
+// "Worked table and its neighbours"
+const X: [u64; 4] = [100, 400, 300, 600];
+const FINAL_DEMAND: [u64; 2] = [500, 900];
+const EXPORTS: [u64; 2] = [250, 560];
+const IMPORTS: [u64; 2] = [250, 360];
+const VALUE_ADDED: [u64; 2] = [600, 1000];
+const PRODUCTION: [u64; 2] = [1000, 2000];
+const D: [u64; 4] = [75_000, 150_000, 240_000, 240_000];
+const F: [u64; 2] = [625, 1280];
+
+pub const PRINTED: &str = "sector demand production value imports\n\
+                           1 625 999 599 249\n\
+                           2 1280 1999 999 359\n\
+                           rounds 9\n";
+
+/// The worked table as 91 bytes in ascending kind and cell.
+pub fn file() -> Vec<u8> {
+    let mut file = vec![1, 2];
+    for (k, amount) in X.iter().enumerate() {
+        file.extend([2, k as u8 / 2 + 1, k as u8 % 2 + 1]);
+        file.extend((*amount as u32).to_be_bytes());
+    }
+    let columns = [FINAL_DEMAND, EXPORTS, IMPORTS, VALUE_ADDED, PRODUCTION];
+    for (kind, column) in (3..).zip(columns) {
+        for (sector, amount) in (1..).zip(column) {
+            file.extend([kind, sector]);
+            file.extend((amount as u32).to_be_bytes());
+        }
+    }
+    file.push(8);
+    file
+}
+
+fn table() -> Case {
+    let columns = [FINAL_DEMAND, EXPORTS, IMPORTS, VALUE_ADDED, PRODUCTION];
+    let mut given = vec![X.to_vec()];
+    given.extend(columns.map(|column| column.to_vec()));
+    Case::new(Call::Coefficients, 2, given)
+}
+
+fn rounds(call: Call, sheet: &[u64], start: &[u64], budget: u32) -> Case {
+    let case = Case::new(call, start.len(), vec![sheet.to_vec(), start.to_vec()]);
+    Case { budget, ..case }
+}
+
+fn accepted(count: usize, cells: &[&[u64]]) -> Outcome {
+    let cells = cells.iter().map(|slice| slice.to_vec()).collect();
+    Outcome { number: 0, place: 0, counts: [count, 0], cells, printed: vec![] }
+}
+
+fn refused(case: &Case, number: u8, place: usize) -> Outcome {
+    let cells = case.lent.iter().map(|length| vec![0; *length]).collect();
+    Outcome { number, place, counts: [0, 0], cells, printed: vec![] }
+}
+
+/// The cases with what the paper says of them.
+pub fn cases() -> Vec<(&'static str, Case, Outcome)> {
+    let mut cases = Vec::new();
+    let (forward, prices, back) = (Call::Production, Call::Price, Call::ImpliedDemand);
+
+    // P1 names m and d; a, v and f follow from the table by hand (f is in P2).
+    let a = [100_000, 200_000, 300_000, 300_000];
+    let sheets: [&[u64]; 5] = [&a, &[600_000, 500_000], &[250_000, 200_000], &D, &F];
+    cases.push(("P1", table(), accepted(0, &sheets)));
+    cases.push(("P2", rounds(forward, &D, &F, 1400), accepted(9, &[&[999, 1999], &[0, 0]])));
+    cases.push(("P2 at 9", rounds(forward, &D, &F, 9), accepted(9, &[&[999, 1999], &[0, 0]])));
+    let short = rounds(forward, &D, &F, 8);
+    let nine = refused(&short, 9, 0);
+    cases.push(("P3", short, nine));
+    cases.push(("P4", rounds(back, &D, &[999, 1999], 0), accepted(0, &[&F])));
+    cases.push(("P5", rounds(back, &D, &[1000, 2000], 0), accepted(0, &[&F])));
+    let below = rounds(back, &D, &[0, 1000], 0);
+    let ten = refused(&below, 10, 0);
+    cases.push(("P6", below, ten));
+    let rise = accepted(10, &[&[11_393, 2_248], &[0, 0]]);
+    cases.push(("P7", rounds(prices, &D, &[10_000, 0], 1400), rise));
+    cases.push(("P8", rounds(forward, &[950_000], &[1], 1), accepted(1, &[&[1], &[0]])));
+    for call in [forward, prices, back] {
+        let over = rounds(call, &[950_001], &[1], 1);
+        let seven = refused(&over, 7, 0);
+        cases.push(("P9", over, seven));
+    }
+    cases.push(("P10", rounds(forward, &D, &[0, 0], 1), accepted(1, &[&[0, 0], &[0, 0]])));
+    for n in [0, 41] {
+        let calls = [Call::Coefficients, forward, prices, back, Call::Induced, Call::Inverse];
+        for call in calls {
+            let given = call.given_lengths(n).iter().map(|length| vec![0; *length]).collect();
+            let case = Case { budget: 1, ..Case::new(call, n, given) };
+            let one = refused(&case, 1, 0);
+            cases.push(("P11", case, one));
+        }
+    }
+    let half = Case { budget: 1400, ..Case::new(Call::Inverse, 1, vec![vec![500_000]]) };
+    let count = settled_by_hand(500_000, 1_000_000);
+    cases.push(("P12", half, accepted(count, &[&[1_999_999], &[1_000_000], &[1_000_000]])));
+
+    // The printed sheet's induced amounts, and the worked table read from its file.
+    let m = vec![250_000, 200_000];
+    let v = vec![600_000, 500_000];
+    let given = vec![a.to_vec(), m, v, FINAL_DEMAND.to_vec(), vec![999, 1999]];
+    let induced = accepted(0, &[&[599, 999], &[249, 359]]);
+    cases.push(("induced", Case::new(Call::Induced, 2, given), induced));
+    let mut read: Vec<Vec<u64>> = reference::FILE_LENGTHS.iter().map(|k| vec![0; *k]).collect();
+    read[0][..4].copy_from_slice(&X);
+    let columns = [FINAL_DEMAND, EXPORTS, IMPORTS, VALUE_ADDED, PRODUCTION];
+    for (slice, column) in columns.iter().enumerate() {
+        read[slice + 1][..2].copy_from_slice(column);
+    }
+    let whole = Outcome { number: 0, place: 0, counts: [2, 14], cells: read, printed: vec![] };
+    cases.push(("file", Case::of_file(Call::ReadTable, file()), whole));
+    let empty = Case::of_file(Call::ReadTable, vec![]);
+    let fifteen = refused(&empty, 15, 0);
+    cases.push(("empty file", empty, fifteen));
+    cases
+}
+
+/// Rounds of one sector, by the words of the paper in a few plain lines.
+fn settled_by_hand(d: u64, f: u64) -> usize {
+    let (mut amount, mut count) = (f, 0);
+    loop {
+        count += 1;
+        let next = f + d * amount / 1_000_000;
+        if next == amount {
+            return count;
+        }
+        amount = next;
+    }
+}
+
+/// "Slips the worked table shows up", and the file's and page's lengths: what the slip would
+/// give, and that the reference does not slip.
+pub fn slips() -> Vec<(&'static str, bool)> {
+    let mut slips = Vec::new();
+    let d = |i: usize, j: usize| D[i * 2 + j];
+    let one = ONE as u64;
+
+    let cut = 750_000 * (FINAL_DEMAND[0] + EXPORTS[0]) / one;
+    slips.push(("exports cut by the import share", cut == 562 && F[0] == 625));
+
+    let need = X[0] + X[1] + FINAL_DEMAND[0];
+    let divisor = IMPORTS[0] * one / (need + EXPORTS[0]) == 200_000;
+    slips.push(("exports in the divisor", divisor && IMPORTS[0] * one / need == 250_000));
+
+    let first = reference::round(2, &D, &F, &F);
+    let second = reference::round(2, &D, &F, &first);
+    let product = F[0] + d(0, 0) * first[0] / one + d(0, 1) * first[1] / one;
+    slips.push(("each product rounded by itself", product == 949 && second[0] == 950));
+
+    let (mut fresh, mut count) = (F, 0);
+    loop {
+        count += 1;
+        let before = fresh;
+        for i in 0..2 {
+            fresh[i] = F[i] + (d(i, 0) * fresh[0] + d(i, 1) * fresh[1]) / one;
+        }
+        if fresh == before {
+            break;
+        }
+    }
+    slips.push(("fresh amounts within a round", fresh == [999, 1999] && count != 9));
+
+    let rise = [10_000, 0];
+    let along = reference::round(2, &D, &rise, &rise);
+    let down = reference::round(2, &reference::turned(2, &D), &rise, &rise);
+    slips.push(("prices along rows", along[1] == 2_400 && down[1] == 1_500));
+
+    let (mut near, mut count) = (F.to_vec(), 0);
+    loop {
+        count += 1;
+        let next = reference::round(2, &D, &F, &near);
+        let moved = next.iter().zip(&near).map(|(new, old)| new.abs_diff(*old)).max().unwrap();
+        near = next;
+        if moved <= 1 {
+            break;
+        }
+    }
+    let unsettled = reference::round(2, &D, &F, &near) != near;
+    slips.push(("stopping within 1", count == 7 && near == [999, 1998] && unsettled));
+
+    slips.push(("91 bytes", file().len() == 91));
+    slips.push(("the printed sheet", reference::page(&file()) == PRINTED.as_bytes()));
+    slips.push(("the empty page", reference::page(&[]) == b"refused 15 0\n"));
+    slips
+}
+
+/// The page's case for the library.
+pub fn page() -> Case {
+    Case { lent: vec![PAGE_BYTES], ..Case::of_file(Call::Page, file()) }
+}

@@ -1,0 +1,100 @@
+/* A fuzz harness of the table reader: any bytes as a file, in slices full of junk.
+   A refusal leaves every cell and count at 0; the marks are 0 after every call; the file is
+   never changed; nothing is written beside a slice. */
+#include <stddef.h>
+#include <stdint.h>
+#include <string.h>
+#include <sys/mman.h>
+
+#undef NDEBUG
+#include <assert.h>
+
+#include "tawqeshim.h"
+
+#define SLICES 8
+#define GUARD 2
+#define JUNK UINT64_C(0xa5c35a3c96f00f69)
+
+static const size_t exact[SLICES] = {1600, 40, 40, 40, 40, 40, 40, 46};
+
+/* What a call tells serves libFuzzer as coverage, since the library itself carries no counters. */
+__attribute__((section("__libfuzzer_extra_counters"), used)) static volatile uint8_t
+    told[16 * 64 + 2048];
+
+/* Room for a file, with a page behind it that cannot be read: a reading past the end stops here. */
+#define ROOM (1 << 16)
+static uint8_t *room(void) {
+    static uint8_t *start;
+    if (!start) {
+        void *pages = mmap(0, 2 * ROOM, PROT_READ | PROT_WRITE, MAP_PRIVATE | MAP_ANONYMOUS, -1, 0);
+        assert(pages != MAP_FAILED);
+        start = pages;
+        assert(mprotect(start + ROOM, ROOM, PROT_NONE) == 0);
+    }
+    return start;
+}
+
+static void one_call(const uint8_t *file, size_t length, const size_t lengths[SLICES]) {
+    static uint64_t cells[SLICES][1600 + 1 + 2 * GUARD];
+    for (size_t s = 0; s < SLICES; s++)
+        for (size_t k = 0; k < lengths[s] + 2 * GUARD; k++) cells[s][k] = JUNK;
+
+    uint8_t *copy = room() + ROOM - length;
+    if (length) memcpy(copy, file, length);
+
+    uint8_t number = 0xa5;
+    size_t place = SIZE_MAX, sectors = SIZE_MAX, named = SIZE_MAX;
+#define SLICE(s) cells[s] + GUARD, lengths[s]
+    tawqeshim_read_table(copy, length, SLICE(0), SLICE(1), SLICE(2), SLICE(3), SLICE(4), SLICE(5),
+                         SLICE(6), SLICE(7), &number, &place, &sectors, &named);
+
+    assert(length == 0 || memcmp(copy, file, length) == 0);
+    for (size_t s = 0; s < SLICES; s++)
+        for (size_t k = 0; k < GUARD; k++) {
+            assert(cells[s][k] == JUNK);
+            assert(cells[s][GUARD + lengths[s] + k] == JUNK);
+        }
+    for (size_t k = 0; k < lengths[7]; k++) assert(cells[7][GUARD + k] == 0);
+
+    int right = memcmp(lengths, exact, sizeof exact) == 0;
+    assert(number == 0 || number == 2 || (number >= 11 && number <= 15));
+    assert((number == 2) == !right);
+    if (number != 0) {
+        assert(sectors == 0 && named == 0);
+        assert(place <= length);
+        assert(number != 2 || place == 0);
+        for (size_t s = 0; s < SLICES; s++)
+            for (size_t k = 0; k < lengths[s]; k++) assert(cells[s][GUARD + k] == 0);
+    } else {
+        assert(place == 0);
+        assert(sectors >= 1 && sectors <= 40);
+        assert(named <= sectors * sectors + 6 * sectors);
+        assert(length >= 3 + 6 * named && length <= 12643);
+        for (size_t s = 0; s < 7; s++) {
+            size_t used = s == 0 ? sectors * sectors : sectors;
+            for (size_t k = 0; k < lengths[s]; k++) {
+                assert(cells[s][GUARD + k] <= UINT32_MAX);
+                assert(k < used || cells[s][GUARD + k] == 0);
+            }
+        }
+    }
+
+    size_t deep = 0;
+    for (size_t rest = place + 8 * named; rest > 0; rest -= (rest + 7) / 8) deep++;
+    told[number * 64 + (deep < 64 ? deep : 63)] = 1;
+    told[16 * 64 + (named < 2048 ? named : 2047)] = 1;
+}
+
+int LLVMFuzzerTestOneInput(const uint8_t *file, size_t length) {
+    if (length > ROOM) return 0;
+    one_call(file, length, exact);
+    /* Now and then one slice is a cell short or a cell long. */
+    if (length % 8 == 7) {
+        size_t lengths[SLICES];
+        memcpy(lengths, exact, sizeof lengths);
+        size_t s = file[0] % SLICES;
+        lengths[s] = file[length - 1] % 2 ? lengths[s] + 1 : lengths[s] - 1;
+        one_call(file, length, lengths);
+    }
+    return 0;
+}
