@@ -18,17 +18,6 @@ DOMESTIC = [75_000, 150_000, 240_000, 240_000]
 DEMAND = [625, 1280]
 
 
-def worked_file():
-    """The worked table as 91 bytes."""
-    file = bytearray([1, 2])
-    for k, amount in enumerate(FLOWS):
-        file += bytes([2, k // 2 + 1, k % 2 + 1]) + amount.to_bytes(4, "big")
-    for kind, column in enumerate(COLUMNS, 3):
-        for sector, amount in enumerate(column, 1):
-            file += bytes([kind, sector]) + amount.to_bytes(4, "big")
-    return bytes(file + b"\x08")
-
-
 def table(**changed):
     names = ["final_demand", "exports", "imports", "value_added", "production"]
     return {"flows": FLOWS, **dict(zip(names, COLUMNS)), **changed}
@@ -123,13 +112,13 @@ class Buffers(unittest.TestCase):
 
 class Files(unittest.TestCase):
     def test_worked_table(self):
-        file = worked_file()
+        file = (ROOT / "examples/worked.table").read_bytes()
         self.assertEqual(len(file), 91)
         read = t.read_table(file)
         self.assertEqual(read, (2, 14, FLOWS, *COLUMNS, [0, 0]))
         self.assertEqual(t.coefficients(*read[2:8]).demand, DEMAND)
         for given in (file, bytearray(file), memoryview(file), list(file)):
-            self.assertEqual(t.page(given), (ROOT / "tests/worked.txt").read_bytes())
+            self.assertEqual(t.page(given), (ROOT / "crates/roadsheet/stdout").read_bytes())
 
     def test_library_by_its_path(self):
         for path, right in ((ROOT / "target/libtawqeshim.so", True), (ROOT / "target/none.so", False)):
