@@ -1,0 +1,382 @@
+// Times the proved calls beside the same calls in C and in Rust, and LAPACK's solve. First the three are compared, cell by cell, on the
+// timed inputs and on inputs that are refused.
+#include "calls.h"
+#include "tawqeshim.h"
+
+#include <math.h>
+#include <stdbool.h>
+#include <stdio.h>
+#include <stdlib.h>
+#include <string.h>
+#include <time.h>
+
+enum { SECTORS = 40, CELLS = 1600, FILE_BYTES = 12643, WAYS = 3, REPETITIONS = 31 };
+static const uint32_t BUDGET = UINT32_MAX;
+
+static const struct {
+    const char *name;
+    settling *production, *price;
+    inverting *inverse;
+    reading *read_table;
+} ways[WAYS] = {
+    {"ours", tawqeshim_production, tawqeshim_price, tawqeshim_inverse, tawqeshim_read_table},
+    {"C", c_production, c_price, c_inverse, c_read_table},
+    {"Rust", rust_production, rust_price, rust_inverse, rust_read_table},
+};
+
+enum call { PRODUCTION, PRICE, INVERSE, READ, CALLS };
+static const char *const call_names[CALLS] = {"production", "price", "inverse", "read_table"};
+
+// What a call is handed.
+struct input {
+    const char *name;
+    size_t n;
+    uint32_t budget;
+    uint64_t d[CELLS], start[2][SECTORS]; // a demand, and direct rises
+    uint8_t file[FILE_BYTES];
+    size_t length;
+};
+
+// What it gives. Unused cells stay 0.
+struct output {
+    uint8_t number;
+    size_t place, sectors, named;
+    uint32_t rounds;
+    uint64_t sheet[CELLS], columns[6][SECTORS], work[46];
+};
+
+static void run(enum call call, int way, const struct input *in, struct output *out)
+{
+    size_t n = in->n;
+    uint64_t (*c)[SECTORS] = out->columns;
+    if (call == READ)
+        ways[way].read_table(
+            in->file, in->length, out->sheet, CELLS, c[0], SECTORS, c[1], SECTORS, c[2], SECTORS, c[3], SECTORS, c[4],
+            SECTORS, c[5], SECTORS, out->work, 46, &out->number, &out->place, &out->sectors, &out->named);
+    else if (call == INVERSE)
+        ways[way].inverse(
+            n, in->d, n * n, in->budget, out->sheet, n * n, c[0], n, c[1], n, &out->number, &out->place, &out->rounds);
+    else
+        (call == PRICE ? ways[way].price : ways[way].production)(
+            n, in->d, n * n, in->start[call == PRICE], n, in->budget, c[0], n, out->work, n, &out->number, &out->place,
+            &out->rounds);
+}
+
+// Inputs.
+
+static uint64_t random_state = 1;
+
+static uint64_t random_below(uint64_t most)
+{
+    random_state += 0x9e3779b97f4a7c15;
+    uint64_t z = random_state;
+    z = (z ^ z >> 30) * 0xbf58476d1ce4e5b9;
+    z = (z ^ z >> 27) * 0x94d049bb133111eb;
+    return (z ^ z >> 31) % most;
+}
+
+// Column j with the given sum, shared out by weights of which some are 0.
+static void fill_column(struct input *in, size_t j, uint64_t sum, unsigned zeros)
+{
+    uint64_t weights[SECTORS], total = 0, left = sum;
+    for (size_t i = 0; i < in->n; i++) {
+        weights[i] = random_below(100) < zeros ? 0 : 1 + random_below(1000) * random_below(1000) / 1000;
+        weights[i] *= i == j ? 4 : 1;
+        total += weights[i];
+    }
+    for (size_t i = 0; i < in->n; i++) {
+        in->d[i * in->n + j] = total == 0 ? 0 : sum * weights[i] / total;
+        left -= in->d[i * in->n + j];
+    }
+    in->d[j * in->n + j] += left;
+}
+
+// A region: half of its cells small or 0, column sums near 400,000, demands up to a few millions, rises of a few per cent.
+static void region(struct input *in, const char *name, size_t n)
+{
+    *in = (struct input){.name = name, .n = n, .budget = BUDGET};
+    for (size_t j = 0; j < n; j++) {
+        fill_column(in, j, 350000 + random_below(100000), 30);
+        in->start[0][j] = 1000 + random_below(2000) * random_below(2000);
+        in->start[1][j] = random_below(50000);
+    }
+}
+
+// Every cell filled, every column sum at its limit, and amounts up to theirs.
+static void dense(struct input *in)
+{
+    *in = (struct input){.name = "dense", .n = SECTORS, .budget = BUDGET};
+    for (size_t j = 0; j < SECTORS; j++) {
+        fill_column(in, j, 950000, 0);
+        in->start[0][j] = random_below(2000000001);
+        in->start[1][j] = random_below(1000000001);
+    }
+}
+
+// Each sector buys from the next alone. The last unit goes round many times before nothing changes.
+static void ring(struct input *in)
+{
+    *in = (struct input){.name = "ring", .n = SECTORS, .budget = BUDGET};
+    for (size_t j = 0; j < SECTORS; j++) {
+        in->d[(j + 1) % SECTORS * SECTORS + j] = 950000;
+        in->start[0][j] = 1999999980;
+        in->start[1][j] = 999999980;
+    }
+    in->start[0][0]++;
+    in->start[1][0]++;
+}
+
+// Every cell named, by rows and then by columns: the longest file that is accepted.
+static void full_file(struct input *in)
+{
+    uint8_t *p = in->file;
+    *in = (struct input){.name = "full file", .n = SECTORS};
+    *p++ = 1, *p++ = SECTORS;
+    for (int kind = 2; kind <= 9; kind++)
+        for (int i = 0; kind != 8 && i < (kind == 2 ? CELLS : SECTORS); i++) {
+            uint32_t amount = (uint32_t)random_below(1000000001);
+            *p++ = (uint8_t)kind;
+            if (kind == 2)
+                *p++ = (uint8_t)(i / SECTORS + 1);
+            *p++ = (uint8_t)(i % SECTORS + 1);
+            for (int shift = 24; shift >= 0; shift -= 8)
+                *p++ = (uint8_t)(amount >> shift);
+        }
+    *p++ = 8;
+    in->length = (size_t)(p - in->file);
+}
+
+// Comparing.
+
+// Do the three ways give the same? Answers ours.
+static struct output compare(enum call call, const struct input *in)
+{
+    static struct output got[WAYS];
+    for (int way = 0; way < WAYS; way++) {
+        memset(&got[way], 0, sizeof got[way]);
+        run(call, way, in, &got[way]);
+        if (memcmp(&got[way], &got[0], sizeof got[0]) != 0) {
+            printf("%s of %s: %s gives something else than ours\n", call_names[call], in->name, ways[way].name);
+            exit(1);
+        }
+    }
+    return got[0];
+}
+
+// The neighbours of an input that are refused, and damaged files.
+static int compare_refused(const struct input *in)
+{
+    static struct input bad;
+    int seen = 0;
+    for (enum call call = PRODUCTION; call <= INVERSE; call++) {
+        bad = *in;
+        bad.budget = compare(call, in).rounds - 1;
+        seen += compare(call, &bad).number == 9;
+        bad = *in;
+        bad.d[random_below(in->n * in->n)] += 950001;
+        seen += compare(call, &bad).number == 7;
+        bad = *in;
+        bad.start[call == PRICE][random_below(in->n)] = call == PRICE ? 1000000001 : 2000000001;
+        seen += compare(call, &bad).number == 8;
+    }
+    return seen;
+}
+
+static int compare_damaged(const struct input *in)
+{
+    static struct input bad;
+    int seen = 0;
+    for (int k = 0; k < 2000; k++) {
+        bad = *in;
+        bad.file[random_below(k % 2 ? 20 : in->length)] = (uint8_t)random_below(k % 3 ? 12 : 256);
+        if (k % 5 == 0)
+            bad.length = random_below(in->length);
+        seen += compare(READ, &bad).number != 0;
+    }
+    return seen;
+}
+
+// LAPACK.
+
+#ifdef LAPACK
+void dgesv_(
+    const int *n, const int *columns, double *a, const int *lda, int *pivots, double *b, const int *ldb, int *info);
+
+// Solves (1 - d) x = b, or its transpose for prices, or for every unit at once.
+static void lapack(enum call call, const struct input *in, double *b)
+{
+    static double a[CELLS];
+    static int pivots[SECTORS];
+    int n = (int)in->n, columns = call == INVERSE ? n : 1, info;
+    for (int i = 0; i < n; i++)
+        for (int j = 0; j < n; j++)
+            a[call == PRICE ? i * n + j : j * n + i] = (i == j) - (double)in->d[i * n + j] / 1e6;
+    if (call == INVERSE)
+        for (int i = 0; i < n * n; i++)
+            b[i] = i % (n + 1) == 0 ? 1e6 : 0;
+    else
+        for (int i = 0; i < n; i++)
+            b[i] = (double)in->start[call == PRICE][i];
+    dgesv_(&n, &columns, a, &n, pivots, b, &n, &info);
+    if (info != 0) {
+        printf("dgesv refused %s\n", in->name);
+        exit(1);
+    }
+}
+
+// The settled amounts lie within the promised distance of LAPACK's: all sectors together lack less than 20 n.
+static void compare_lapack(enum call call, const struct input *in)
+{
+    static double b[CELLS];
+    struct output got = compare(call, in);
+    lapack(call, in, b);
+    for (size_t j = 0; j < (call == INVERSE ? in->n : 1); j++) {
+        double lack = 0;
+        for (size_t i = 0; i < in->n; i++)
+            lack += b[j * in->n + i] - (double)(call == INVERSE ? got.sheet[i * in->n + j] : got.columns[0][i]);
+        if (lack < -1e-2 || 20.0 * (double)in->n <= lack) {
+            printf("%s of %s: %g away from LAPACK's solve\n", call_names[call], in->name, lack);
+            exit(1);
+        }
+    }
+}
+#endif
+
+// Timing.
+
+static double now(void)
+{
+    struct timespec t;
+    clock_gettime(CLOCK_PROCESS_CPUTIME_ID, &t);
+    return (double)t.tv_sec * 1e9 + (double)t.tv_nsec;
+}
+
+// Nanoseconds a call, over some calls. The way after the three is LAPACK.
+static double timed(enum call call, int way, const struct input *in, int times)
+{
+    static struct output out;
+    static double b[CELLS];
+    double began = now();
+    for (int k = 0; k < times; k++) {
+#ifdef LAPACK
+        if (way == WAYS) {
+            lapack(call, in, b);
+            continue;
+        }
+#endif
+        run(call, way, in, &out);
+    }
+    (void)b;
+    return (now() - began) / times;
+}
+
+static int ascending(const void *a, const void *b)
+{
+    double x = *(const double *)a, y = *(const double *)b;
+    return (x > y) - (x < y);
+}
+
+// The median, and half the distance between the quartiles in *spread.
+static double median(const double *list, double *spread)
+{
+    double sorted[REPETITIONS];
+    memcpy(sorted, list, sizeof sorted);
+    qsort(sorted, REPETITIONS, sizeof *sorted, ascending);
+    *spread = (sorted[REPETITIONS * 3 / 4] - sorted[REPETITIONS / 4]) / 2;
+    return sorted[REPETITIONS / 2];
+}
+
+// All rounds of a call; of the inverse those of all columns.
+static uint64_t rounds_of(enum call call, const struct input *in, uint32_t *told)
+{
+    static struct input unit;
+    struct output got = compare(call, in);
+    uint64_t all = 0;
+    *told = got.rounds;
+    if (got.number != 0) {
+        printf("%s of %s is refused with %d\n", call_names[call], in->name, got.number);
+        exit(1);
+    }
+    if (call != INVERSE)
+        return got.rounds;
+    for (size_t j = 0; j < in->n; j++) {
+        unit = *in;
+        memset(unit.start, 0, sizeof unit.start);
+        unit.start[0][j] = 1000000;
+        all += compare(PRODUCTION, &unit).rounds;
+    }
+    return all;
+}
+
+static void cell(double value)
+{
+    if (value < 0)
+        printf(" %11s", "-");
+    else
+        printf(" %11.0f", value);
+}
+
+static void row(enum call call, const struct input *in, bool solve)
+{
+    static double took[WAYS + 1][REPETITIONS], ratio[WAYS][REPETITIONS];
+    double each[WAYS + 1] = {-1, -1, -1, -1}, spread[WAYS + 1], away[WAYS];
+    uint32_t told;
+    uint64_t rounds = rounds_of(call, in, &told);
+    int used = WAYS + (solve && call != READ);
+    int times = 1 + (int)(1e6 / timed(call, 0, in, 3));
+    for (int k = 0; k < REPETITIONS; k++)
+        for (int way = 0; way < used; way++)
+            took[way][k] = timed(call, way, in, times);
+    for (int way = 0; way < used; way++)
+        each[way] = median(took[way], &spread[way]);
+    for (int way = 1; way < WAYS; way++) {
+        for (int k = 0; k < REPETITIONS; k++)
+            ratio[way][k] = took[0][k] / took[way][k];
+        ratio[way][0] = median(ratio[way], &away[way]);
+    }
+    printf("%-10s %-9s %2zu", call_names[call], in->name, in->n);
+    if (call == READ)
+        printf(" %6s", "-");
+    else
+        printf(" %6u", told);
+    for (int way = 0; way <= WAYS; way++)
+        cell(each[way]);
+    for (int way = 0; way < WAYS; way++)
+        if (call == READ)
+            printf(" %6s", "-");
+        else
+            printf(" %6.0f", each[way] / (double)rounds);
+    printf("   %5.2f ± %4.2f   %5.2f ± %4.2f\n", ratio[1][0], away[1], ratio[2][0], away[2]);
+    fflush(stdout);
+}
+
+int main(void)
+{
+    static struct input sheets[4], file;
+    bool solve = false;
+    int refused = 0;
+    region(&sheets[0], "region", 13);
+    region(&sheets[1], "region", 37);
+    dense(&sheets[2]);
+    ring(&sheets[3]);
+    full_file(&file);
+    for (int k = 0; k < 4; k++) {
+        refused += compare_refused(&sheets[k]);
+#ifdef LAPACK
+        for (enum call call = PRODUCTION; call <= INVERSE; call++)
+            compare_lapack(call, &sheets[k]);
+        solve = true;
+#endif
+    }
+    refused += compare_damaged(&file);
+    printf("ours, C and Rust give the same cells, numbers, places and counts on the timed inputs and on %d refused ones\n", refused);
+    printf("median of %d repetitions, in nanoseconds of processor time; rounds of the inverse: the largest count of a column\n\n", REPETITIONS);
+    printf("%-29s  %47s %20s\n", "", "a call", "a round");
+    printf("%-10s %-9s %2s %6s %11s %11s %11s %11s %6s %6s %6s   %12s   %12s\n", "call", "sheet", "n", "rounds", "ours", "C", "Rust",
+        "LAPACK", "ours", "C", "Rust", "ours/C", "ours/Rust");
+    for (enum call call = PRODUCTION; call <= INVERSE; call++)
+        for (int k = 0; k < 4; k++)
+            row(call, &sheets[k], solve);
+    row(READ, &file, solve);
+    return 0;
+}
