@@ -106,7 +106,7 @@ fn printed_demands(a: &[u64; 9], v: &[u64; 3], m: &[u64; 3], d: &[u64; 9]) {
     induce_inside(b"investment", a, v, m, d, &[111, 6759, 1747]);
     induce(b"exports", a, v, m, d, &[0, 0, 0], &[1753, 11767, 1931]);
     imply(b"demand behind production", d, &[3990, 18644, 41103]);
-    show_word(b"in million yen\n");
+    show_word(b"as printed, in million yen\n");
     induce_inside(b"consumption", a, v, m, d, &[51000, 505000, 2734700]);
     induce_inside(b"investment", a, v, m, d, &[11100, 675900, 174700]);
     induce(
@@ -144,6 +144,7 @@ fn printed_table() {
         share_of(15778, 1069 + 5744 + 3998 + 11809),
         share_of(4317, 709 + 4260 + 9426 + 29094),
     ];
+    show_word(b"as printed, in 100 million yen\n");
     show_line(b"import shares", &m);
     show_line(b"value shares", &v);
     printed_sheets(&a, &v, &m);
@@ -173,7 +174,7 @@ fn finer_table() {
     let mut m = [7u64; 3];
     let mut d = [7u64; 9];
     let mut f = [7u64; 3];
-    show_word(b"finer table");
+    show_word(b"finer table, in million yen");
     show_answer(coefficients(
         3,
         &[
@@ -221,48 +222,125 @@ fn finer_demands(a: &[u64; 9], v: &[u64; 3], m: &[u64; 3], d: &[u64; 9], f: &[u6
     );
 }
 
-// Compensation of employees at a production of fifteen sectors, in thousand yen: document 001, part III, whose rates stand for the value shares. After a
-// bar what of the demand is imported, by the rates of self-sufficiency.
+// Document 001, part III, fifteen sectors: what of a production goes to employees.
+const PAY: [u64; 15] = [
+    143038,
+    52471,
+    220781,
+    45973,
+    145087,
+    252368,
+    149404,
+    395092,
+    417842,
+    20468,
+    200574,
+    138140,
+    337085,
+    411376,
+    34764,
+];
+
+// One less each rate of self-sufficiency.
+const IMPORTED: [u64; 15] = [
+    344783,
+    175826,
+    354287,
+    769507,
+    848867,
+    0,
+    263532,
+    166921,
+    96512,
+    10,
+    164927,
+    382084,
+    0,
+    49166,
+    55774,
+];
+
+// Example 1, case 1: the demand and the production that it induces, in thousand yen.
+const DEMAND_1: [u64; 15] = [
+    1000000,
+    200000,
+    1000000,
+    0,
+    3000000,
+    0,
+    300000,
+    1000000,
+    500000,
+    500000,
+    400000,
+    100000,
+    0,
+    2000000,
+    0,
+];
+
+const PRODUCTION_1: [u64; 15] = [
+    779000,
+    199000,
+    681000,
+    4000,
+    625000,
+    62000,
+    330000,
+    1082000,
+    561000,
+    550000,
+    642000,
+    156000,
+    13000,
+    2457000,
+    56000,
+];
+
+// Example 2, case 1, whose demand is all for construction, and example 3, which has none.
+const PRODUCTION_2: [u64; 15] = [
+    57000,
+    6000,
+    2000,
+    23000,
+    474000,
+    10032000,
+    76000,
+    668000,
+    160000,
+    43000,
+    614000,
+    98000,
+    35000,
+    1201000,
+    155000,
+];
+
+const PRODUCTION_3: [u64; 15] = [
+    934000,
+    103000,
+    22000,
+    15000,
+    10000000,
+    73000,
+    271000,
+    644000,
+    86000,
+    32000,
+    421000,
+    71000,
+    15000,
+    1044000,
+    68000,
+];
+
+// The pay of employees at a production, with its rates for value shares, and after a bar what of the demand is imported.
 fn pay(name: &[u8], fin: &[u64; 15], y: &[u64; 15]) {
-    let rates = [
-        143038,
-        52471,
-        220781,
-        45973,
-        145087,
-        252368,
-        149404,
-        395092,
-        417842,
-        20468,
-        200574,
-        138140,
-        337085,
-        411376,
-        34764,
-    ];
-    let shares = [
-        344783,
-        175826,
-        354287,
-        769507,
-        848867,
-        0,
-        263532,
-        166921,
-        96512,
-        10,
-        164927,
-        382084,
-        0,
-        49166,
-        55774,
-    ];
     let a = [0u64; 225];
     let mut value = [7u64; 15];
     let mut imports = [7u64; 15];
     show_word(name);
-    show_answer(induced(15, &a, &shares, &rates, fin, y, &mut value, &mut imports));
+    show_answer(induced(15, &a, &IMPORTED, &PAY, fin, y, &mut value, &mut imports));
     show_word(b":");
     show_cells(&value);
     show_word(b" |");
@@ -271,85 +349,12 @@ fn pay(name: &[u8], fin: &[u64; 15], y: &[u64; 15]) {
 }
 
 fn examples() {
-    pay(
-        b"example 1, case 1",
-        &[
-            1000000,
-            200000,
-            1000000,
-            0,
-            3000000,
-            0,
-            300000,
-            1000000,
-            500000,
-            500000,
-            400000,
-            100000,
-            0,
-            2000000,
-            0,
-        ],
-        &[
-            779000,
-            199000,
-            681000,
-            4000,
-            625000,
-            62000,
-            330000,
-            1082000,
-            561000,
-            550000,
-            642000,
-            156000,
-            13000,
-            2457000,
-            56000,
-        ],
-    );
-    pay(
-        b"example 2, case 1",
-        &[0, 0, 0, 0, 0, 10000000, 0, 0, 0, 0, 0, 0, 0, 0, 0],
-        &[
-            57000,
-            6000,
-            2000,
-            23000,
-            474000,
-            10032000,
-            76000,
-            668000,
-            160000,
-            43000,
-            614000,
-            98000,
-            35000,
-            1201000,
-            155000,
-        ],
-    );
-    pay(
-        b"example 3",
-        &[0, 0, 0, 0, 0, 0, 0, 0, 0, 0, 0, 0, 0, 0, 0],
-        &[
-            934000,
-            103000,
-            22000,
-            15000,
-            10000000,
-            73000,
-            271000,
-            644000,
-            86000,
-            32000,
-            421000,
-            71000,
-            15000,
-            1044000,
-            68000,
-        ],
-    );
+    let mut building = [0u64; 15];
+    building[5] = 10000000;
+    let none = [0u64; 15];
+    pay(b"example 1, case 1", &DEMAND_1, &PRODUCTION_1);
+    pay(b"example 2, case 1", &building, &PRODUCTION_2);
+    pay(b"example 3", &none, &PRODUCTION_3);
 }
 
 fn main() {
