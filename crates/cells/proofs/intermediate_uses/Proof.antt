@@ -1,90 +1,90 @@
+-- `cells::intermediate_uses` meets its contract: uses has what industry takes of the first i sectors. Assumes nothing.
+use mathlib.Core.List.{List}
+use mathlib.Core.Path.{_≡_, _∙_, subst⁻¹}
+use Prim.Native.Nat.{ℕ, _+_, _≤_, _<_, _-_}
+use native.Mathlib.Omega.{arith}
+use borrow.Author.Needs.{needs}
+use lib.ListN.{length, set, length-set}
+use Rattle.model.specs.Numbers.{at, cell}
+use Rattle.model.specs.Rounds.{intermediate}
+use Rattle.theory.proofs.Lists.{Agree, agree-none, agree-set, agree-two, tabulated}
 use Rattle.cells.proofs.intermediate_uses.Statement.{statement}
 use Rattle.cells.proofs.intermediate_uses.Tie as tie
-use Rattle.cells.proofs.intermediate_uses.Reads as reads
-use Rattle.cells.proofs.intermediate_uses.Lts as lts
-use Rattle.cells.proofs.intermediate_pair.Reads as intermediate-pair-reads
-use Rattle.cells.proofs.intermediate_use.Reads as intermediate-use-reads
-use Rattle.cells.proofs.is_narrow.Reads as is-narrow-reads
 
 abbrev Inv-loop : tie.InvT-loop
-Inv-loop n d amounts uses₀ narrow i₀ uses i = ?
+Inv-loop n d amounts uses₀ narrow i₀ uses i = (i ≤ n) × (length uses ≡ n) × Agree uses i (intermediate n (at n d) (cell amounts))
 
 abbrev μ-loop : tie.MeasureT-loop
-μ-loop n d amounts uses₀ narrow i₀ uses i = ?
+μ-loop n d amounts uses₀ narrow i₀ uses i = n - i
 
--- src/lib.rt:149:9
-is-narrow-requires : tie.Need-is-narrow-requires Inv-loop μ-loop
-is-narrow-requires c κs = ?
+abbrev entry : tie.At-loop Inv-loop μ-loop → tie.Start Inv-loop μ-loop
+entry p = p .before .before .before .before .before
 
--- src/lib.rt:151:5
+-- what industry takes
+abbrev taken : tie.At-loop Inv-loop μ-loop → ℕ → ℕ
+taken p = let a = entry p .args in intermediate (a .n) (at (a .n) (a .d .now)) (cell (a .amounts .now))
+
 loop-holds : tie.Need-loop-holds Inv-loop μ-loop
-loop-holds c = ?
+loop-holds c =
+    let s = c .before .before .before .before in
+    (omega arith, s .pre .0 .2, agree-none (s .args .uses .now) _)
 
--- src/lib.rt:151:11
 add-loop : tie.Need-add-loop Inv-loop μ-loop
-add-loop c = ?
+add-loop c = let e = entry c .pre .0 .1 in omega arith
 
--- src/lib.rt:152:9
 intermediate-pair-requires : tie.Need-intermediate-pair-requires Inv-loop μ-loop
-intermediate-pair-requires c κs = ?
+intermediate-pair-requires c κs =
+    let p = c .before .before in
+    let s = entry p in
+    let h = c .before .loop-test .taken in (
+      (s .pre .0 .0, s .pre .0 .1, p .loop .inv .1, h),
+      (
+        (s .pre .1 .0, p .before .is-narrow .ensures),
+        (s .pre .1 .1 (p .loop .i) (omega arith), s .pre .1 .1 (p .loop .i + 1) h),
+      ),
+    )
 
--- src/lib.rt:153:9
-add-i : tie.Need-add-i Inv-loop μ-loop
-add-i c = ?
-
--- src/lib.rt:151:5
-loop-less : tie.Need-loop-less Inv-loop μ-loop
-loop-less c = ?
-
--- src/lib.rt:151:5
 loop-again : tie.Need-loop-again Inv-loop μ-loop
-loop-again c = ?
+loop-again c =
+    let p = c .before .before .before .before .before in
+    let l = p .loop in
+    let h = c .before .before .before .before .loop-test .taken in
+    let q = c .before .before .intermediate-pair in (
+      omega arith,
+      q .kept .1 .1 .1 .1 .1 .0 ∙ l .inv .1,
+      subst⁻¹ (λ (x : List ℕ). Agree x (l .i + 2) (taken p)) (q .ensures)
+          (agree-two (l .uses) (l .i) (taken p) (omega arith) (l .inv .2)),
+    )
 
--- src/lib.rt:156:19
 intermediate-use-requires : tie.Need-intermediate-use-requires Inv-loop μ-loop
-intermediate-use-requires c κs = ?
+intermediate-use-requires c κs =
+    let p = c .before .before in
+    let s = entry p in
+    ((s .pre .0 .0, s .pre .0 .1, c .if1 .taken), s .pre .1 .1 (p .loop .i) (c .if1 .taken))
 
--- src/lib.rt:156:9
-mul-uses : tie.Need-mul-uses Inv-loop μ-loop
-mul-uses c = ?
-
--- src/lib.rt:156:9
-slice-write-uses : tie.Need-slice-write-uses Inv-loop μ-loop
-slice-write-uses c = ?
-
--- src/lib.rt:143:1
 same-length : tie.Need-same-length Inv-loop μ-loop
-same-length c = ?
+same-length c = let s = entry (c .before .before .before) in let e = s .pre .0 .2 in simp length-set (omega arith)
 
--- src/lib.rt:143:1
-returns : tie.Need-returns Inv-loop μ-loop
-returns c = ?
-
--- src/lib.rt:143:1
 same-length-2 : tie.Need-same-length-2 Inv-loop μ-loop
-same-length-2 c = ?
+same-length-2 c = let s = entry (c .before .before) in let e = s .pre .0 .2 in omega arith
 
--- src/lib.rt:143:1
+returns : tie.Need-returns Inv-loop μ-loop
+returns c =
+    let p = c .before .before .before in
+    let l = p .loop in
+    tabulated (entry p .args .n) (l .i + 1) (taken p) (set (l .uses) (l .i) (c .intermediate-use .result)) (simp length-set (l .inv .1)) (omega arith)
+    (agree-set (l .uses) (l .i) (taken p) (c .intermediate-use .result) (omega arith) (c .intermediate-use .ensures) (l .inv .2))
+
 returns-2 : tie.Need-returns-2 Inv-loop μ-loop
-returns-2 c = ?
+returns-2 c =
+    let p = c .before .before in
+    let l = p .loop in
+    tabulated (entry p .args .n) (l .i) (taken p) (l .uses) (l .inv .1) (c .if1 .left) (l .inv .2)
 
 pub intermediate-uses-spec : {M : Type 1} → statement M
 intermediate-uses-spec =
     tie.close
     (tie.spec
-    Inv-loop
-    μ-loop
-    is-narrow-requires
-    loop-holds
-    add-loop
-    intermediate-pair-requires
-    add-i
-    loop-less
-    loop-again
-    intermediate-use-requires
-    mul-uses
-    slice-write-uses
-    same-length
-    returns
-    same-length-2
-    returns-2)
+    Inv-loop μ-loop (λ c κs. search needs) loop-holds add-loop intermediate-pair-requires (λ c. omega arith)
+    (λ c. omega arith) loop-again intermediate-use-requires (λ c. omega arith) (λ c. omega arith)
+    same-length returns same-length-2 returns-2)
