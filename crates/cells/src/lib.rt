@@ -187,7 +187,7 @@ pub fn turn(n: usize, d: &[u64], start: &[u64], out: &mut [u64], work: &mut [u64
     advance(n, start, work, out)
 }
 
-// Column j of a matrix; the columns before it are kept.
+// Writes column j of a matrix; the columns before it are kept.
 pub fn put_column(n: usize, j: usize, column: &[u64], sheet: &mut [u64])
     requires { ⌜ (length (now sheet) ≡ n * n) × (length (now column) ≡ n) × (j < n) ⌝ }
     ensures { λ _. ⌜ ((i : ℕ) → i < n → at n (now (sheet .exit)) i j ≡ cell (now (column .entry)) i) ⌝ }
@@ -198,7 +198,7 @@ pub fn put_column(n: usize, j: usize, column: &[u64], sheet: &mut [u64])
     }
 }
 
-// Rows and columns exchanged.
+// A matrix with its rows and columns exchanged.
 pub fn transpose(n: usize, d: &[u64], sheet: &mut [u64])
     requires { ⌜ (length (now d) ≡ n * n) × (length (now sheet) ≡ n * n) ⌝ }
     ensures { λ _. ⌜ ((i j : ℕ) → i < n → j < n → at n (now (sheet .exit)) i j ≡ transposed (at n (now (d .entry))) i j) ⌝ }
