@@ -115,14 +115,7 @@ fn narrowed(narrow: bool, amount: u64) -> u64
 
 // What industry takes of sectors i and i + 1, in one pass over the amounts. Narrow coefficients take one multiplication of 32 bits where the
 // amounts are narrow too, and two where they are not.
-fn intermediate_pair(
-    n: usize,
-    d: &[u64],
-    narrow: bool,
-    amounts: &[u64],
-    i: usize,
-    uses: &mut [u64],
-)
+fn intermediate_pair(n: usize, d: &[u64], narrow: bool, amounts: &[u64], i: usize, uses: &mut [u64])
     requires { ⌜ (length (now d) ≡ n * n) × (length (now amounts) ≡ n) × (length (now uses) ≡ n) × (i + 1 < n) ⌝ }
     requires { ⌜ Narrow (now d) × (narrow ≡ true → Narrow (now amounts)) ⌝ }
     requires { ⌜ (weighted n (at n (now d)) (cell (now amounts)) i ≤ sumLimit) × (weighted n (at n (now d)) (cell (now amounts)) (i + 1) ≤ sumLimit) ⌝ }

@@ -2,13 +2,23 @@
 use mathlib.Core.Bool.{Bool, true, false, _&&_, cond}
 use mathlib.Core.List.{List}
 use mathlib.Core.Path.{_≡_, refl, sym, ap, _∙_}
-use Prim.Native.Nat.{ℕ, _+_, _-_, _≤_, _<_}
+use Prim.Native.Nat.{ℕ, _+_, _*_, _-_, _/_, _%_, _^_, _≤_, _<_}
 use native.Mathlib.Omega.{arith}
-use borrow.Author.Tests.{lt-leb, le-leb, leb-true, leb-false, eq-eqb, ne-eqb}
-use lib.Dec.{leb}
+use borrow.Author.Tests.{lt-leb, le-leb, leb-true, leb-false, eq-eqb, ne-eqb, eqb-true}
+use lib.Dec.{eqb, leb}
 use lib.ListN.{length}
 use Rattle.model.specs.Numbers.{cell}
 use Rattle.model.specs.File.{Entry, recordLengths, columnLines, kindAt, isFlow, nextAt, wholeAt, insideAt, amountFrom, entryAt}
+use Rattle.theory.proofs.Lists.{first-before}
+
+-- the digits of the words that hold a length and a line for each kind
+pub length-digit : (k : ℕ) → k < 10 → 418329814816 / 2 ^ (4 * k) % 16 ≡ cell recordLengths k
+length-digit k h =
+    eqb-true (418329814816 / 2 ^ (4 * k) % 16) (cell recordLengths k) (first-before 10 (λ i. eqb (418329814816 / 2 ^ (4 * i) % 16) (cell recordLengths i)) k h)
+
+pub line-digits : (k : ℕ) → k < 10 → 810844447706185728 / 2 ^ (6 * k) % 64 ≡ cell columnLines k
+line-digits k h =
+    eqb-true (810844447706185728 / 2 ^ (6 * k) % 64) (cell columnLines k) (first-before 10 (λ i. eqb (810844447706185728 / 2 ^ (6 * i) % 64) (cell columnLines i)) k h)
 
 -- a sector byte from 1 to n
 abbrev pub sector : ℕ → ℕ → Bool
