@@ -4,7 +4,7 @@ use mathlib.Core.Path.{_≡_, ap₂, subst, subst⁻¹}
 use Prim.Native.Nat.{ℕ, _+_, _*_, _%_, _≤_, _<_}
 use native.Mathlib.Nat.{mod-eq-of-lt}
 use native.Mathlib.Omega.{arith}
-use lib.Bits.{bitOr, bitAnd, or-add-and, and-le-r, or-comm}
+use lib.Bits.{bitOr, or-add-and, and-le-r, or-comm}
 use lib.ListN.{length}
 use Rattle.model.specs.Numbers.{cell, at}
 use Rattle.model.specs.Rounds.{product}

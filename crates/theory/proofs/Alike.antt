@@ -1,11 +1,10 @@
 -- Coefficients that are alike below n have the same rounds, so a matrix and its transposed copy serve alike. Narrow matrices. Assumes
 -- nothing.
 use mathlib.Core.Path.{_≡_, refl, sym, ap, ap₂, _∙_, fun-ext, subst⁻¹}
-use mathlib.Core.Bool.{Bool, true, not}
+use mathlib.Core.Bool.{not}
 use mathlib.Core.List.{List, [], _∷_}
 use Prim.Native.Nat.{ℕ, zero, suc, _+_, _*_, _/_, _%_, _≤_, _<_}
 use native.Mathlib.Omega.{arith}
-use native.Mathlib.Nat.{le-trans, lt-of-le-of-lt}
 use lib.Dec.{leb}
 use lib.ListN.{length}
 use Rattle.model.specs.Numbers.{one, first, cell, same, at, transposed}

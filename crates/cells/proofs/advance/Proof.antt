@@ -1,6 +1,6 @@
 -- `cells::advance` meets its contract: out has the new amounts below i and the old ones from i on, and unchanged tells whether the first i are
 -- the same. Assumes nothing.
-use mathlib.Core.Bool.{Bool, _&&_}
+use mathlib.Core.Bool.{_&&_}
 use mathlib.Core.List.{List}
 use mathlib.Core.Path.{_≡_, refl, sym, ap, _∙_}
 use Prim.Native.Nat.{ℕ, _+_, _≤_, _<_, _-_}

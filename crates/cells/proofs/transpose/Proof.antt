@@ -1,12 +1,12 @@
 -- `cells::transpose` meets its contract: the columns before j are the rows of d. Assumes nothing.
-use mathlib.Core.Path.{_≡_, refl, _∙_}
+use mathlib.Core.Path.{_≡_, _∙_}
 use Prim.Native.Nat.{ℕ, _+_, _*_, _≤_, _<_, _-_}
 use native.Mathlib.Nat.{not-suc-le-zero}
 use native.Mathlib.Omega.{arith}
 use borrow.Author.Count.{below-more}
 use borrow.Author.Needs.{needs}
 use lib.ListN.{length}
-use Rattle.model.specs.Numbers.{at, cell}
+use Rattle.model.specs.Numbers.{at}
 use Rattle.cells.proofs.RowLaws.{row-within, row-length, row-cell}
 use Rattle.cells.proofs.transpose.Statement.{statement}
 use Rattle.cells.proofs.transpose.Tie as tie

@@ -1,13 +1,12 @@
 -- `cells::turn` meets its contract: work has what industry takes at the amounts of out, and out then its round. Assumes nothing.
 use mathlib.Core.List.{List}
-use mathlib.Core.Path.{_≡_, ap, _∙_}
+use mathlib.Core.Path.{ap, _∙_}
 use Prim.Native.Nat.{ℕ, _+_, _<_, _^_}
 use native.Mathlib.Omega.{arith}
 use borrow.Author.Needs.{needs}
-use lib.ListN.{length}
-use Rattle.model.specs.Numbers.{at, cell, same, tabulate}
-use Rattle.model.specs.Rounds.{intermediate, round}
-use Rattle.theory.proofs.Lists.{cell-tabulate, length-tabulate}
+use Rattle.model.specs.Numbers.{at, cell, same}
+use Rattle.model.specs.Rounds.{intermediate}
+use Rattle.theory.proofs.Lists.{cell-tabulate}
 use Rattle.theory.proofs.Rounds.{intermediate-within, round-made}
 use Rattle.cells.proofs.turn.Statement.{statement}
 use Rattle.cells.proofs.turn.Tie as tie
