@@ -7,8 +7,8 @@
  * A table has n sectors, 1 to 40, counted from 0. Matrices have n * n cells, row by row: the cell of row i and column j is cell i * n + j.
  * Amounts are whole numbers of one money unit. Shares and coefficients are whole millionths: "one" is 1,000,000. Quotients are rounded down.
  *
- * Slices. Each array is a pointer, then its length in cells (of `file`, in bytes). Any lengths, cells, n and budget may be handed over; a
- * wrong length is refused with number 2.
+ * Slices. Each array is a pointer, then its length in cells (of `file` and a page, in bytes). Any lengths, cells, n and budget may be handed
+ * over; a wrong length is refused with number 2.
  *
  * Answers. `*number` is 0 if the call was accepted, and only then; `*place` is then 0. Otherwise `*number` is that of the first question
  * answered no, `*place` says where, and every count is 0. Questions are asked in the order that a function states.
@@ -38,7 +38,7 @@
  *   - what is not const, arrays and numbers alike, overlaps nothing else that is handed to the same call.
  *
  * No function allocates, keeps anything between calls, or writes to what is const. Whatever outputs, work and numbers held before is
- * overwritten.
+ * overwritten, but for the bytes after a page.
  */
 #ifndef TAWQESHIM_H
 #define TAWQESHIM_H
@@ -189,6 +189,17 @@ void tawqeshim_read_table(
     uint64_t *rises, size_t rises_length,
     uint64_t *marks, size_t marks_length,
     uint8_t *number, size_t *place, size_t *sectors, size_t *named);
+
+/*
+ * Reads a table file of any bytes and writes the sheet that is printed of it, as the program roadsheet does: demand, production with 1,400
+ * rounds allowed, and induced value added and imports, a line a sector; or the one line `refused`, a number and a place.
+ *
+ * Gives how many bytes the page has, at most out_length, and the page from the start of out. Bytes after it keep what they held.
+ * Where out has fewer than 2,851 bytes, which hold every page, gives 0 and writes nothing. It has no number.
+ */
+size_t tawqeshim_page(
+    const uint8_t *file, size_t file_length,
+    uint8_t *out, size_t out_length);
 
 #ifdef __cplusplus
 }

@@ -3,8 +3,6 @@
 
 use crate::reference;
 
-/// Whether the call `tawqeshim_page` is compared too.
-pub const PAGE: bool = false;
 /// The bytes that `tawqeshim_page` asks for.
 pub const PAGE_BYTES: usize = 2_851;
 
@@ -49,7 +47,8 @@ impl Call {
     }
 
     /// The numbers the call can give. A row gives none; here 0 stands for a stretch, 1 for none.
-    /// A page cannot give 1, 2 and 8, and 9 only if some table needs over 1,400 rounds.
+    /// A page shows the number that refused; here 2 stands for a buffer that is too short. It cannot
+    /// show 1 and 8, and 9 only if some table needs over 1,400 rounds.
     pub fn numbers(self) -> &'static [u8] {
         match self {
             Call::Coefficients => &[0, 1, 2, 3, 4, 5, 6, 7],
@@ -59,7 +58,7 @@ impl Call {
             Call::Inverse => &[0, 1, 2, 7, 9],
             Call::Row => &[0, 1],
             Call::ReadTable => &[0, 2, 11, 12, 13, 14, 15],
-            Call::Page => &[0, 3, 4, 5, 6, 7, 11, 12, 13, 14, 15],
+            Call::Page => &[0, 2, 3, 4, 5, 6, 7, 11, 12, 13, 14, 15],
         }
     }
 
@@ -190,6 +189,7 @@ fn page_by_reference(case: &Case) -> Outcome {
 pub fn number_seen(case: &Case, outcome: &Outcome) -> u8 {
     match case.call {
         Call::Row => u8::from(outcome.counts[1] == 0),
+        Call::Page if outcome.counts[0] == 0 => 2,
         Call::Page => {
             let page = String::from_utf8_lossy(&outcome.printed[..outcome.counts[0]]);
             let mut words = page.split_whitespace();
@@ -405,11 +405,8 @@ fn page_by_library(case: &Case, file: &[u8]) -> Result<Outcome, &'static str> {
     let mut out = vec![0xa5; GUARD];
     out.extend(junk_bytes(length));
     out.extend([0xa5; GUARD]);
-    let mut written = 0;
-    if PAGE {
-        let start = out[GUARD..].as_mut_ptr();
-        written = unsafe { tawqeshim_page(file.as_ptr(), file.len(), start, length) };
-    }
+    let start = out[GUARD..].as_mut_ptr();
+    let written = unsafe { tawqeshim_page(file.as_ptr(), file.len(), start, length) };
     if file != case.file {
         return Err("an input changed");
     }

@@ -1,6 +1,6 @@
 //! Pseudo-random cases: valid, nearly valid and hostile. A case depends on its index alone.
 
-use crate::calls::{by_reference, Call, Case, PAGE, PAGE_BYTES};
+use crate::calls::{by_reference, Call, Case, PAGE_BYTES};
 use crate::reference::{self, SECTORS};
 
 const AMOUNT: u64 = reference::AMOUNT_LIMIT as u64;
@@ -877,7 +877,7 @@ pub fn case(seed: u64, index: u64) -> Case {
     if index % 2_000 == 0 {
         return long_ring(rng);
     }
-    let mut case = match rng.below(if PAGE { 108 } else { 100 }) {
+    let mut case = match rng.below(108) {
         0..=23 => coefficients_case(rng),
         24..=43 => rounds_case(rng, Call::Production),
         44..=55 => rounds_case(rng, Call::Price),

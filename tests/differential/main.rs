@@ -10,7 +10,7 @@ mod generate;
 mod reference;
 mod worked;
 
-use calls::{by_library, by_reference, number_seen, Call, Case, CALLS, PAGE};
+use calls::{by_library, by_reference, number_seen, Call, Case, CALLS};
 use std::process::exit;
 
 const SEED: u64 = 0x7461_7771_6573_6869;
@@ -111,9 +111,7 @@ fn main() {
     for (name, case, _) in worked::cases() {
         tally.case(name, case);
     }
-    if PAGE {
-        tally.case("the printed sheet", worked::page());
-    }
+    tally.case("the printed sheet", worked::page());
     std::thread::scope(|scope| {
         let part = |thread| {
             let mut tally = Tally::new();
@@ -133,7 +131,7 @@ fn main() {
         println!("{told}\n  {case:?}");
     }
     let mut unseen = 0;
-    for call in CALLS.into_iter().filter(|call| PAGE || *call != Call::Page) {
+    for call in CALLS {
         let seen = &tally.seen[call as usize];
         let counts: Vec<String> = (0..16)
             .filter(|number| seen[*number] > 0 || call.numbers().contains(&(*number as u8)))

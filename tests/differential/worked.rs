@@ -1,6 +1,6 @@
 //! The paper's worked cases P1 to P12, its slips and its printed sheet, with the paper's numbers.
 
-use crate::calls::{Call, Case, Outcome, PAGE_BYTES};
+use crate::calls::{Call, Case, Outcome};
 use crate::reference::{self, ONE};
 
 // "Worked table and its neighbours"
@@ -190,5 +190,5 @@ pub fn slips() -> Vec<(&'static str, bool)> {
 
 /// The page's case for the library.
 pub fn page() -> Case {
-    Case { lent: vec![PAGE_BYTES], ..Case::of_file(Call::Page, file()) }
+    Case::of_file(Call::Page, file())
 }

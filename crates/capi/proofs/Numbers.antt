@@ -1,7 +1,7 @@
 -- The number alone tells whether a call was accepted: acceptance has number 0, and a refusal another. Assumes nothing.
-use mathlib.Core.Bool.{Bool, true, false, _&&_, cond, false≢true}
+use mathlib.Core.Bool.{Bool, true, false, _&&_, cond}
 use mathlib.Core.List.{List, [], _∷_, _++_}
-use mathlib.Core.Path.{_≡_, refl, sym, ap, subst}
+use mathlib.Core.Path.{_≡_, refl, sym}
 use Prim.Native.Nat.{ℕ, zero, suc, _+_, _≤_}
 use native.Mathlib.Omega.{arith}
 use borrow.Author.Tests.{ne-eqb, leb-true}
@@ -12,7 +12,7 @@ use Rattle.model.specs.Table.{Table}
 use Rattle.model.specs.Rounds.{settling, inverseRounds}
 use Rattle.model.specs.Checks.{Report, Check, refuses, verdict, columnSums, columnsSettle, demandLeft, demandLimit, inducedAmounts, lengths, productionTotal, riseLimit, size}
 use Rattle.model.specs.Calls.{coefficientsReport, domesticCoefficients, impliedReport, inducedReport, inverseReport, matrixChecks, priceReport, productionReport, settlingChecks, tableChecks}
-use Rattle.model.specs.File.{Entry, Reading, called, entryAt, fits, insideAt, kindAt, named, nextAt, reading, walk, wholeAt}
+use Rattle.model.specs.File.{Entry, Reading, answerOf, called, entryAt, fits, insideAt, kindAt, named, nextAt, reading, reportRead, walk, wholeAt}
 use Rattle.theory.proofs.Lists.{and-true}
 
 -- a report that is accepted exactly where its number is 0
@@ -67,23 +67,15 @@ induced-number n a m v F y lent =
     let columns = length m ∷ length v ∷ length F ∷ length y ∷ lent in
     numbered (size n ∷ lengths n (length a ∷ []) columns ∷ inducedAmounts n a m v F ++ (productionTotal n y ∷ [])) 0 refl
 
--- ---- the reader: a file that is refused has a number
-abbrev numberOf : Reading → ℕ
-numberOf (Reading.refused q p) = q
-numberOf (Reading.table n es) = 0
-
+-- ---- the reader: a file is accepted exactly where its number is 0
 pub record NumberedRead (o : Reading) : Type 0 where
-  pub nonzero : (q p : ℕ) → o ≡ Reading.refused q p → 1 ≤ q
+  pub numbered : reportRead (answerOf o) .accepted ≡ eqb (reportRead (answerOf o) .number) 0
 
 refusal : (q p : ℕ) → 1 ≤ q → NumberedRead (Reading.refused q p)
-refusal q p h = record { nonzero = λ q' p' e. subst (λ (k : ℕ). 1 ≤ k) (ap numberOf e) h }
-
-abbrev isRefused : Reading → Bool
-isRefused (Reading.refused q p) = true
-isRefused (Reading.table n es) = false
+refusal q p h = record { numbered = sym (ne-eqb q 0 (λ e. omega arith)) }
 
 accepted : (n : ℕ) (es : List Entry) → NumberedRead (Reading.table n es)
-accepted n es = record { nonzero = λ q p e. absurd (false≢true (ap isRefused e)) }
+accepted n es = record { numbered = refl }
 
 either : (b : Bool) {o p : Reading} → NumberedRead o → NumberedRead p → NumberedRead (cond b o p)
 either true h k = h

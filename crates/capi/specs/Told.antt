@@ -7,8 +7,7 @@ use lib.Dec.{eqb}
 use lib.ListN.{length, take, drop}
 use Rattle.model.specs.Rounds.{rowSlice}
 use Rattle.model.specs.Checks.{Report}
-use Rattle.model.specs.declared.TableRead.{TableRead}
-use Rattle.model.specs.declared.TableRead.the-variants.{Read, Refused}
+use Rattle.model.specs.File.{ReadReport}
 
 -- the number and the place of a report
 abbrev pub Told : Report → (number place : ℕ) → Type 0
@@ -18,17 +17,7 @@ Told r number place = (number ≡ r .number) × (place ≡ r .place)
 abbrev pub ToldRounds : Report → (number place rounds : ℕ) → Type 0
 ToldRounds r number place rounds = Told r number place × (rounds ≡ r .rounds)
 
--- the reader's answer in the paper's numbers, case by case
-pub record ReadReport : Type 0 where
-  pub number : ℕ
-  pub place : ℕ
-  pub sectors : ℕ
-  pub named : ℕ
-
-abbrev pub reportRead : TableRead → ReadReport
-reportRead (Read n k) = record { number = 0; place = 0; sectors = n; named = k }
-reportRead (Refused q p) = record { number = q; place = p; sectors = 0; named = 0 }
-
+-- what a reading's report says
 abbrev pub ToldRead : ReadReport → (number place sectors named : ℕ) → Type 0
 ToldRead r number place sectors named =
     (number ≡ r .number) × (place ≡ r .place) × (sectors ≡ r .sectors) × (named ≡ r .named)

@@ -7,23 +7,26 @@ use model::Outcome;
 use model::TableRead;
 use multipliers::inverse;
 use multipliers::row;
+use page::write_page;
 use rounds::price;
 use rounds::production;
 use table_file::read_table;
 ghost use mathlib.Core.Bool.{true};
 ghost use mathlib.Core.List.{List, [], _∷_};
 ghost use mathlib.Core.Path.{_≡_};
-ghost use Prim.Native.Nat.{ℕ};
+ghost use Prim.Native.Nat.{ℕ, _≤_};
 ghost use lib.ListN.{length, replicate};
+ghost use lib.Seq.{sets};
 ghost use Rattle.model.specs.Numbers.{at, transposed};
 ghost use Rattle.model.specs.Table.{tableOf};
 ghost use Rattle.model.specs.Rounds.{dispersion, impliedDemand, inducedImports, inducedValueAdded, inverse, settled};
 ghost use Rattle.model.specs.Checks.{accepts, output, report, reportRounds};
 ghost use Rattle.model.specs.Calls.{coefficientsReport, domesticCoefficients, domesticDemands, impliedReport, importCoefficients, inducedReport, inputCoefficients, inverseReport, priceReport, productionReport, valueAddedCoefficients};
 ghost use Rattle.model.specs.Promises.{Accurate, AccuratePrices, Distinguishes, NotAbove, Returns};
-ghost use Rattle.model.specs.File.{answerOf, called};
+ghost use Rattle.model.specs.File.{answerOf, called, reportRead};
+ghost use Rattle.model.specs.Page.{printed};
 ghost use Rattle.table_file.specs.Reader.{Delivered};
-ghost use Rattle.capi.specs.Told.{reportRead, Told, ToldRead, ToldRounds, ToldRow};
+ghost use Rattle.capi.specs.Told.{Told, ToldRead, ToldRounds, ToldRow};
 
 // An answer without a count.
 fn tell_answer(answer: Answer, number: &mut u8, place: &mut usize)
@@ -322,4 +325,15 @@ pub extern "C" fn tawqeshim_read_table(
         marks,
     );
     tell_read(answer, number, place, sectors, named);
+}
+
+// Reads a table file of any bytes, writes its page from the start of a buffer, and gives its count of bytes; 0 where the buffer has fewer
+// than 2,851 bytes.
+#[no_mangle]
+pub extern "C" fn tawqeshim_page(file: &[u8], out: &mut [u8]) -> usize
+    ensures { λ r. ⌜ r ≡ length (printed (length (now (out .entry))) (now (file .entry))) ⌝ }
+    ensures { λ _. ⌜ now (out .exit) ≡ sets (now (out .entry)) 0 (printed (length (now (out .entry))) (now (file .entry))) ⌝ }
+    ensures { λ r. ⌜ r ≤ length (now (out .entry)) ⌝ }
+{
+    write_page(file, out)
 }

@@ -1,11 +1,11 @@
 -- The page of a file, by what the reader answers and leaves in its slices. Assumes nothing.
-use mathlib.Core.Path.{_≡_, refl, sym, ap, ap₂, subst, _∙_}
-use mathlib.Core.Bool.{true, false, false≢true}
+use mathlib.Core.Path.{_≡_, refl, sym, ap, ap₂, subst}
+use mathlib.Core.Bool.{false≢true}
 use mathlib.Core.List.{List, [], _∷_}
 use Prim.Native.Nat.{ℕ, _*_, _≤_}
-use lib.ListN.{length, take}
+use lib.ListN.{take}
 use Rattle.model.specs.Table.{tableOf}
-use Rattle.model.specs.File.{Reading, reading, called, answerOf, ReadReport, reportRead, flowsRead, columnRead, fits}
+use Rattle.model.specs.File.{Reading, reading, called, answerOf, reportRead}
 use Rattle.model.specs.Page.{refusalLine, tablePage, readingPage, page}
 use Rattle.model.specs.declared.TableRead.{TableRead}
 use Rattle.model.specs.declared.TableRead.the-variants.{Read, Refused}

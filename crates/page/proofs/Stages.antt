@@ -1,6 +1,5 @@
 -- The page at each call's way out: a refusal's line, or what comes next. Assumes nothing.
 use mathlib.Core.Path.{_≡_, refl, sym, ap, subst, _∙_}
-use mathlib.Core.Bool.{true}
 use mathlib.Core.List.{List, [], _∷_}
 use Prim.Native.Nat.{ℕ, _*_, _-_, _≤_}
 use native.Mathlib.Omega.{arith}
@@ -9,7 +8,7 @@ use lib.Seq.{sets, length-take-le}
 use Rattle.model.specs.Numbers.{at}
 use Rattle.model.specs.Table.{Table, tableOf}
 use Rattle.model.specs.Rounds.{settled, inducedValueAdded, inducedImports}
-use Rattle.model.specs.Checks.{Report, accepts, refuses, output}
+use Rattle.model.specs.Checks.{Report, accepts, refuses}
 use Rattle.model.specs.Calls.{coefficientsReport, inputCoefficients, valueAddedCoefficients, importCoefficients, domesticCoefficients, domesticDemands, productionReport, inducedReport}
 use Rattle.model.specs.Page.{pageBudget, refusalLine, orRefusal, sheet, inducedPage, productionPage, tablePage}
 

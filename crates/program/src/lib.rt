@@ -32,7 +32,7 @@ fn read_input(buffer: &mut [u8]) -> Input
 }
 
 // Writes the page of a table file to standard output.
-fn print_page(file: &[u8]) {
+pub fn print_page(file: &[u8]) {
     let mut out = [0u8; 2851];
     let count = write_page(file, &mut out);
     if !io::write_all(STDOUT_FILENO, &out[..count]) {

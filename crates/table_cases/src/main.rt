@@ -1,9 +1,24 @@
-// Runs the call for sheets from a table on the worked table of document 01 and its neighbours, and prints each answer with every output cell. Each
-// slice that is lent holds 7 in every cell before the call.
+// Runs the call for sheets from a table on the worked table of document 01, its neighbours and a printed table of document 001, and prints each answer
+// with every output cell. Each slice that is lent holds 7 in every cell before the call.
 use coefficients::coefficients;
 use show::show_answer;
 use show::show_cells;
 use show::show_word;
+
+// The five sheets of a table, parted by bars.
+fn show_sheets(a: &[u64], v: &[u64], m: &[u64], d: &[u64], f: &[u64]) {
+    show_word(b":");
+    show_cells(a);
+    show_word(b" |");
+    show_cells(v);
+    show_word(b" |");
+    show_cells(m);
+    show_word(b" |");
+    show_cells(d);
+    show_word(b" |");
+    show_cells(f);
+    show_word(b"\n");
+}
 
 // Sheets from a table of n sectors with slices for two: a, v, m, d and f.
 fn sheets(
@@ -36,17 +51,32 @@ fn sheets(
         &mut d,
         &mut f,
     ));
-    show_word(b":");
-    show_cells(&a);
-    show_word(b" |");
-    show_cells(&values);
-    show_word(b" |");
-    show_cells(&shares);
-    show_word(b" |");
-    show_cells(&d);
-    show_word(b" |");
-    show_cells(&f);
-    show_word(b"\n");
+    show_sheets(&a, &values, &shares, &d, &f);
+}
+
+// The same of a table of three sectors, with slices for three.
+fn three_sectors(name: &[u8], x: &[u64], fin: &[u64], e: &[u64], m: &[u64], v: &[u64], p: &[u64]) {
+    let mut a = [7u64; 9];
+    let mut values = [7u64; 3];
+    let mut shares = [7u64; 3];
+    let mut d = [7u64; 9];
+    let mut f = [7u64; 3];
+    show_word(name);
+    show_answer(coefficients(
+        3,
+        x,
+        fin,
+        e,
+        m,
+        v,
+        p,
+        &mut a,
+        &mut values,
+        &mut shares,
+        &mut d,
+        &mut f,
+    ));
+    show_sheets(&a, &values, &shares, &d, &f);
 }
 
 // The worked table with another cell of x.
@@ -160,7 +190,21 @@ fn more_tables() {
     );
 }
 
+// Table 3-1 of document 001, in units of 100 million yen: amounts that were rounded one by one, so that the third column misses by one.
+fn printed_table() {
+    three_sectors(
+        b"Miyazaki as printed",
+        &[492, 2109, 104, 1069, 5744, 3998, 709, 4260, 9426],
+        &[621, 11809, 29094],
+        &[1753, 11767, 1931],
+        &[1088, 15778, 4317],
+        &[1720, 6531, 27576],
+        &[3990, 18644, 41103],
+    );
+}
+
 fn main() {
     tables();
     more_tables();
+    printed_table();
 }

@@ -8,6 +8,7 @@ use lib.ListN.{length, take, drop}
 use Rattle.model.specs.File.{Entry, kindAt, wholeAt, entryAt, named, Reading, walk, reading, flowsRead, columnRead}
 use Rattle.model.specs.declared.TableRead.{TableRead}
 use Rattle.model.specs.declared.TableRead.the-variants.{Read, Refused}
+use Rattle.theory.specs.Files.{Within}
 use Rattle.records.specs.Bodies.{Body, Sectors}
 use Rattle.records.specs.Marks.{marked}
 use Rattle.table_file.specs.declared.Step.{Step}
@@ -27,12 +28,6 @@ pub record Agrees (es : List Entry) (marks : List ℕ) : Type 0 where
 pub record Kept (n : ℕ) (es : List Entry) (cells marks : List ℕ) : Type 0 where
   pub held : Held (Reading.table n es) cells
   pub agrees : Agrees es marks
-
--- a cell that a table of n sectors has
-pub record Within (n : ℕ) (e : Entry) : Type 0 where
-  pub known : e .line < 46
-  pub row : e .line < 40 → e .line < n
-  pub place : e .position < n
 
 -- a whole record stands at an offset
 pub record Begun (s : List ℕ) (at : ℕ) : Type 0 where

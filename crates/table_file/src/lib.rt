@@ -17,8 +17,9 @@ ghost use mathlib.Core.Path.{_≡_};
 ghost use Prim.Native.Nat.{ℕ, _≤_};
 ghost use lib.ListN.{length, replicate};
 ghost use Rattle.model.specs.File.{Entry, kindAt, entryAt, Reading, walk as walkFrom, reading, fits, called, answerOf};
+ghost use Rattle.theory.specs.Files.{Within};
 ghost use Rattle.records.specs.Bodies.{Body, Sectors};
-ghost use Rattle.table_file.specs.Reader.{Held, Kept, Within, Begun, Naming, Asked, Turned, Ends, Opened, Delivered};
+ghost use Rattle.table_file.specs.Reader.{Held, Kept, Begun, Naming, Asked, Turned, Ends, Opened, Delivered};
 
 // What the walk does at a record: it stops with a refusal, it ends, or it takes a named cell and goes on.
 pub enum Step {

@@ -6,12 +6,12 @@ use Prim.Native.Nat.{ℕ, suc, _+_, _*_, _-_, _/_, _%_, _<_}
 use native.Mathlib.Nat.{div-add-mod', div-div-eq-div-mul, suc-add, add-sub-cancel}
 use native.Mathlib.Omega.{arith}
 use native.Mathlib.Numerals.{unary-clauses}
-use borrow.Author.Tests.{lt-leb, le-leb, leb-true, leb-false, eqb-true, ltb-false}
+use borrow.Author.Tests.{lt-leb, le-leb, leb-true, leb-false, eqb-true, ltb-true, ltb-false}
 use lib.Dec.{eqb, leb, ltb}
 use lib.ListN.{length}
 use Rattle.model.specs.Numbers.{first, cell}
 use Rattle.model.specs.File.{Entry, recordLengths, columnLines, columnKinds, amountBytes, encode, amountFrom, kindAt, wholeAt, insideAt, entryAt, named, Reading, walk}
-use Rattle.theory.specs.Files.{Fits}
+use Rattle.theory.specs.Files.{Within}
 use Rattle.theory.proofs.Lists.{first-before, and-true}
 
 -- two neighbouring bytes of an amount make one number
@@ -111,18 +111,18 @@ column-stands n k j a rest hk hj =
     }
 
 -- The one lemma of a record: what `encode` wrote of a cell of the table, a reader finds
-pub stands : (n : ℕ) (e : Entry) → Fits n e → (before rest : List ℕ) → Stands n (before ++ (encode e ++ rest)) (length before) e (length (encode e))
+pub stands : (n : ℕ) (e : Entry) → Within n e → (before rest : List ℕ) → Stands n (before ++ (encode e ++ rest)) (length before) e (length (encode e))
 unfolding encode
-stands n e f before rest = stands-at n before (encode e ++ rest) e (length (encode e)) (go (ltb (e .line) 40) refl (f .line-in))
+stands n e f before rest = stands-at n before (encode e ++ rest) e (length (encode e)) (go (ltb (e .line) 40) refl)
   where
-    go : (b : Bool) → ltb (e .line) 40 ≡ b → e .line < cond (ltb (e .line) 40) n 46 → Stands n (encode e ++ rest) 0 e (length (encode e))
-    go true h in-n = rw h (flow-stands n (e .line) (e .position) (e .amount) rest (rw h at in-n) (f .position-in))
-    go false h in-46 =
+    go : (b : Bool) → ltb (e .line) 40 ≡ b → Stands n (encode e ++ rest) 0 e (length (encode e))
+    go true h = rw h (flow-stands n (e .line) (e .position) (e .amount) rest (f .row (ltb-true (e .line) 40 h)) (f .place))
+    go false h =
         let low = ltb-false (e .line) 40 h in
-        let high : e .line < 46 = rw h at in-46 in
+        let high = f .known in
         let k = e .line - 40 in
         let same : 40 + k ≡ e .line = omega arith in
-        let at-40 = column-stands n k (e .position) (e .amount) rest (omega arith) (f .position-in) in
+        let at-40 = column-stands n k (e .position) (e .amount) rest (omega arith) (f .place) in
         rw h (subst (λ (l : ℕ). Stands n (cell columnKinds k ∷ (e .position + 1) ∷ (amountBytes (e .amount) ++ rest)) 0 (made l (e .position) (e .amount)) 6) same at-40)
 
 -- it stands before the end of the file

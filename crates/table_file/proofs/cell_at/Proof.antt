@@ -8,7 +8,8 @@ use borrow.Author.Needs.{needs}
 use borrow.Author.Tests.{not-true, not-false}
 use Rattle.model.specs.File.{Entry, insideAt, entryAt, named, walk}
 use Rattle.records.specs.Marks.{marked}
-use Rattle.table_file.specs.Reader.{Agrees, Within, Names}
+use Rattle.theory.specs.Files.{Within}
+use Rattle.table_file.specs.Reader.{Agrees, Names}
 use Rattle.table_file.proofs.WalkLaws.{outside, twice, fresh}
 use Rattle.table_file.proofs.NameLaws.{bodied, sectors-of, within-of, names-of}
 use Rattle.table_file.proofs.cell_at.Statement.{statement}

@@ -3,7 +3,8 @@ use mathlib.Core.Path.{_≡_, sym, _∙_, subst}
 use mathlib.Core.List.{_∷_}
 use borrow.Author.Needs.{needs}
 use Rattle.model.specs.File.{Entry, entryAt}
-use Rattle.table_file.specs.Reader.{Kept, Within}
+use Rattle.theory.specs.Files.{Within}
+use Rattle.table_file.specs.Reader.{Kept}
 use Rattle.table_file.proofs.Loops.{as-entry, keeps}
 use Rattle.table_file.proofs.keep.Statement.{statement}
 use Rattle.table_file.proofs.keep.Tie as tie

@@ -1,0 +1,4 @@
+// `roadsheet` on an input that is longer than its buffer.
+fn main() {
+    program::run();
+}

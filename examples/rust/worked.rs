@@ -1,0 +1,81 @@
+//! The worked table of two sectors, from its flows to its printed sheet: coefficients, production, induced amounts.
+//!
+//! After scripts/shared-library, from the repository's folder:
+//!   rustc --edition 2021 -o target/worked-rust examples/rust/worked.rs -L target -C link-arg='-Wl,-rpath,$ORIGIN' && target/worked-rust
+
+use std::process::exit;
+
+// From include/tawqeshim.h: each array is a pointer, then its length.
+#[link(name = "tawqeshim", kind = "dylib")]
+extern "C" {
+    fn tawqeshim_coefficients(
+        n: usize, x: *const u64, x_length: usize, final_demand: *const u64, final_demand_length: usize,
+        exports: *const u64, exports_length: usize, imports: *const u64, imports_length: usize,
+        value_added: *const u64, value_added_length: usize, production: *const u64, production_length: usize,
+        a: *mut u64, a_length: usize, v: *mut u64, v_length: usize, m: *mut u64, m_length: usize,
+        d: *mut u64, d_length: usize, f: *mut u64, f_length: usize, number: *mut u8, place: *mut usize,
+    );
+    fn tawqeshim_production(
+        n: usize, d: *const u64, d_length: usize, f: *const u64, f_length: usize, budget: u32,
+        out: *mut u64, out_length: usize, work: *mut u64, work_length: usize,
+        number: *mut u8, place: *mut usize, rounds: *mut u32,
+    );
+    fn tawqeshim_induced(
+        n: usize, a: *const u64, a_length: usize, m: *const u64, m_length: usize, v: *const u64, v_length: usize,
+        final_demand: *const u64, final_demand_length: usize, production: *const u64, production_length: usize,
+        value: *mut u64, value_length: usize, imports: *mut u64, imports_length: usize,
+        number: *mut u8, place: *mut usize,
+    );
+}
+
+const N: usize = 2;
+
+fn accept(number: u8, place: usize) {
+    if number != 0 {
+        println!("refused {number} {place}");
+        exit(1);
+    }
+}
+
+fn main() {
+    let x: [u64; N * N] = [100, 400, 300, 600];
+    let (final_demand, exports, imports): ([u64; N], [u64; N], [u64; N]) = ([500, 900], [250, 560], [250, 360]);
+    let (value_added, production): ([u64; N], [u64; N]) = ([600, 1000], [1000, 2000]);
+    let (mut number, mut place, mut rounds) = (0, 0, 0);
+
+    let (mut a, mut d) = ([0; N * N], [0; N * N]);
+    let (mut v, mut m, mut f) = ([0; N], [0; N], [0; N]);
+    // Every pointer is of a live array of the stated length, and no array that is written is handed over twice.
+    unsafe {
+        tawqeshim_coefficients(
+            N, x.as_ptr(), N * N, final_demand.as_ptr(), N, exports.as_ptr(), N, imports.as_ptr(), N,
+            value_added.as_ptr(), N, production.as_ptr(), N, a.as_mut_ptr(), N * N, v.as_mut_ptr(), N,
+            m.as_mut_ptr(), N, d.as_mut_ptr(), N * N, f.as_mut_ptr(), N, &mut number, &mut place,
+        );
+    }
+    accept(number, place);
+
+    let (mut settled, mut work) = ([0; N], [0; N]);
+    unsafe {
+        tawqeshim_production(
+            N, d.as_ptr(), N * N, f.as_ptr(), N, 1400, settled.as_mut_ptr(), N, work.as_mut_ptr(), N,
+            &mut number, &mut place, &mut rounds,
+        );
+    }
+    accept(number, place);
+
+    let (mut value, mut imported) = ([0; N], [0; N]);
+    unsafe {
+        tawqeshim_induced(
+            N, a.as_ptr(), N * N, m.as_ptr(), N, v.as_ptr(), N, final_demand.as_ptr(), N, settled.as_ptr(), N,
+            value.as_mut_ptr(), N, imported.as_mut_ptr(), N, &mut number, &mut place,
+        );
+    }
+    accept(number, place);
+
+    println!("sector demand production value imports");
+    for i in 0..N {
+        println!("{} {} {} {} {}", i + 1, f[i], settled[i], value[i], imported[i]);
+    }
+    println!("rounds {rounds}");
+}
