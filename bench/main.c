@@ -3,8 +3,6 @@
 #include "calls.h"
 #include "tawqeshim.h"
 
-#include <math.h>
-#include <stdbool.h>
 #include <stdio.h>
 #include <stdlib.h>
 #include <string.h>
@@ -102,25 +100,25 @@ static void region(struct input *in, const char *name, size_t n)
     }
 }
 
-// Every cell filled, every column sum at its limit, and amounts up to theirs.
-static void dense(struct input *in)
+// Every cell filled, every column sum at its limit, demands and rises up to the given ones.
+static void dense(struct input *in, const char *name, uint64_t demand, uint64_t rise)
 {
-    *in = (struct input){.name = "dense", .n = SECTORS, .budget = BUDGET};
+    *in = (struct input){.name = name, .n = SECTORS, .budget = BUDGET};
     for (size_t j = 0; j < SECTORS; j++) {
         fill_column(in, j, 950000, 0);
-        in->start[0][j] = random_below(2000000001);
-        in->start[1][j] = random_below(1000000001);
+        in->start[0][j] = random_below(demand + 1);
+        in->start[1][j] = random_below(rise + 1);
     }
 }
 
 // Each sector buys from the next alone. The last unit goes round many times before nothing changes.
-static void ring(struct input *in)
+static void ring(struct input *in, const char *name, uint64_t demand, uint64_t rise)
 {
-    *in = (struct input){.name = "ring", .n = SECTORS, .budget = BUDGET};
+    *in = (struct input){.name = name, .n = SECTORS, .budget = BUDGET};
     for (size_t j = 0; j < SECTORS; j++) {
         in->d[(j + 1) % SECTORS * SECTORS + j] = 950000;
-        in->start[0][j] = 1999999980;
-        in->start[1][j] = 999999980;
+        in->start[0][j] = demand - 20;
+        in->start[1][j] = rise - 20;
     }
     in->start[0][0]++;
     in->start[1][0]++;
@@ -196,13 +194,23 @@ static int compare_damaged(const struct input *in)
     return seen;
 }
 
-// LAPACK.
+// LAPACK. The build says by LAPACK, 1 or 0, whether it is installed.
 
-#ifdef LAPACK
+static double solution[CELLS];
+
+#if LAPACK
 void dgesv_(
     const int *n, const int *columns, double *a, const int *lda, int *pivots, double *b, const int *ldb, int *info);
+#else
+static void dgesv_(
+    const int *n, const int *columns, double *a, const int *lda, int *pivots, double *b, const int *ldb, int *info)
+{
+    (void)n, (void)columns, (void)a, (void)lda, (void)pivots, (void)b, (void)ldb;
+    *info = 1;
+}
+#endif
 
-// Solves (1 - d) x = b, or its transpose for prices, or for every unit at once.
+// Solves (1 - d) x = b, or its transpose for prices, or for every unit at once. The matrix is made anew: dgesv overwrites it.
 static void lapack(enum call call, const struct input *in, double *b)
 {
     static double a[CELLS];
@@ -224,23 +232,21 @@ static void lapack(enum call call, const struct input *in, double *b)
     }
 }
 
-// The settled amounts lie within the promised distance of LAPACK's: all sectors together lack less than 20 n.
+// Settled amounts are not above LAPACK's, and in all sectors together less than 20 n below.
 static void compare_lapack(enum call call, const struct input *in)
 {
-    static double b[CELLS];
     struct output got = compare(call, in);
-    lapack(call, in, b);
+    lapack(call, in, solution);
     for (size_t j = 0; j < (call == INVERSE ? in->n : 1); j++) {
         double lack = 0;
         for (size_t i = 0; i < in->n; i++)
-            lack += b[j * in->n + i] - (double)(call == INVERSE ? got.sheet[i * in->n + j] : got.columns[0][i]);
+            lack += solution[j * in->n + i] - (double)(call == INVERSE ? got.sheet[i * in->n + j] : got.columns[0][i]);
         if (lack < -1e-2 || 20.0 * (double)in->n <= lack) {
             printf("%s of %s: %g away from LAPACK's solve\n", call_names[call], in->name, lack);
             exit(1);
         }
     }
 }
-#endif
 
 // Timing.
 
@@ -255,18 +261,12 @@ static double now(void)
 static double timed(enum call call, int way, const struct input *in, int times)
 {
     static struct output out;
-    static double b[CELLS];
     double began = now();
-    for (int k = 0; k < times; k++) {
-#ifdef LAPACK
-        if (way == WAYS) {
-            lapack(call, in, b);
-            continue;
-        }
-#endif
-        run(call, way, in, &out);
-    }
-    (void)b;
+    for (int k = 0; k < times; k++)
+        if (way < WAYS)
+            run(call, way, in, &out);
+        else
+            lapack(call, in, solution);
     return (now() - began) / times;
 }
 
@@ -308,75 +308,71 @@ static uint64_t rounds_of(enum call call, const struct input *in, uint32_t *told
     return all;
 }
 
-static void cell(double value)
+static void row(enum call call, const struct input *in)
 {
-    if (value < 0)
-        printf(" %11s", "-");
-    else
-        printf(" %11.0f", value);
-}
-
-static void row(enum call call, const struct input *in, bool solve)
-{
-    static double took[WAYS + 1][REPETITIONS], ratio[WAYS][REPETITIONS];
-    double each[WAYS + 1] = {-1, -1, -1, -1}, spread[WAYS + 1], away[WAYS];
+    static double took[WAYS + 1][REPETITIONS], against[REPETITIONS];
+    double each[WAYS + 1], spread;
     uint32_t told;
     uint64_t rounds = rounds_of(call, in, &told);
-    int used = WAYS + (solve && call != READ);
+    int used = call == READ || !LAPACK ? WAYS : WAYS + 1;
     int times = 1 + (int)(1e6 / timed(call, 0, in, 3));
     for (int k = 0; k < REPETITIONS; k++)
         for (int way = 0; way < used; way++)
             took[way][k] = timed(call, way, in, times);
     for (int way = 0; way < used; way++)
-        each[way] = median(took[way], &spread[way]);
-    for (int way = 1; way < WAYS; way++) {
-        for (int k = 0; k < REPETITIONS; k++)
-            ratio[way][k] = took[0][k] / took[way][k];
-        ratio[way][0] = median(ratio[way], &away[way]);
-    }
-    printf("%-10s %-9s %2zu", call_names[call], in->name, in->n);
+        each[way] = median(took[way], &spread);
+    printf("%-10s %-14s %2zu ", call_names[call], in->name, in->n);
     if (call == READ)
-        printf(" %6s", "-");
+        printf("%6s", "-");
     else
-        printf(" %6u", told);
+        printf("%6u", told);
     for (int way = 0; way <= WAYS; way++)
-        cell(each[way]);
+        if (way < used)
+            printf(" %9.0f", each[way]);
+        else
+            printf(" %9s", "-");
     for (int way = 0; way < WAYS; way++)
         if (call == READ)
-            printf(" %6s", "-");
+            printf(" %5s", "-");
         else
-            printf(" %6.0f", each[way] / (double)rounds);
-    printf("   %5.2f ± %4.2f   %5.2f ± %4.2f\n", ratio[1][0], away[1], ratio[2][0], away[2]);
+            printf(" %5.0f", each[way] / (double)rounds);
+    for (int way = 1; way < WAYS; way++) {
+        for (int k = 0; k < REPETITIONS; k++)
+            against[k] = took[0][k] / took[way][k];
+        printf("  %5.2f", median(against, &spread));
+        printf(" ± %4.2f", spread);
+    }
+    printf("\n");
     fflush(stdout);
 }
 
 int main(void)
 {
-    static struct input sheets[4], file;
-    bool solve = false;
+    enum { SHEETS = 6, PLAIN = 4 };
+    static struct input sheets[SHEETS], file;
     int refused = 0;
     region(&sheets[0], "region", 13);
     region(&sheets[1], "region", 37);
-    dense(&sheets[2]);
-    ring(&sheets[3]);
+    dense(&sheets[2], "dense", 100000000, 100000);
+    ring(&sheets[3], "ring", 100000000, 100000000);
+    dense(&sheets[4], "dense, largest", 2000000000, 1000000000);
+    ring(&sheets[5], "ring, largest", 2000000000, 1000000000);
     full_file(&file);
-    for (int k = 0; k < 4; k++) {
+    for (int k = 0; k < SHEETS; k++) {
         refused += compare_refused(&sheets[k]);
-#ifdef LAPACK
-        for (enum call call = PRODUCTION; call <= INVERSE; call++)
+        for (enum call call = PRODUCTION; LAPACK && call <= INVERSE; call++)
             compare_lapack(call, &sheets[k]);
-        solve = true;
-#endif
     }
     refused += compare_damaged(&file);
-    printf("ours, C and Rust give the same cells, numbers, places and counts on the timed inputs and on %d refused ones\n", refused);
-    printf("median of %d repetitions, in nanoseconds of processor time; rounds of the inverse: the largest count of a column\n\n", REPETITIONS);
-    printf("%-29s  %47s %20s\n", "", "a call", "a round");
-    printf("%-10s %-9s %2s %6s %11s %11s %11s %11s %6s %6s %6s   %12s   %12s\n", "call", "sheet", "n", "rounds", "ours", "C", "Rust",
-        "LAPACK", "ours", "C", "Rust", "ours/C", "ours/Rust");
+    printf("Ours, C and Rust give the same cells, numbers, places and counts, on the timed inputs and on %d refused ones.\n", refused);
+    printf("Nanoseconds of processor time, median of %d. ± is half the distance between the quartiles.\n\n", REPETITIONS);
+    printf("%-34s %39s %17s %14s %14s\n", "", "a call", "a round", "ratio", "ratio");
+    printf("%-10s %-14s %2s %6s %9s %9s %9s %9s %5s %5s %5s %14s %14s\n", "call", "sheet", "n", "rounds", "ours", "C", "Rust", "LAPACK",
+        "ours", "C", "Rust", "ours/C", "ours/Rust");
+    // the inverse takes no demand
     for (enum call call = PRODUCTION; call <= INVERSE; call++)
-        for (int k = 0; k < 4; k++)
-            row(call, &sheets[k], solve);
-    row(READ, &file, solve);
+        for (int k = 0; k < (call == INVERSE ? PLAIN : SHEETS); k++)
+            row(call, &sheets[k]);
+    row(READ, &file);
     return 0;
 }

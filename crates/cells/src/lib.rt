@@ -1,14 +1,14 @@
 // Leaves over lent slices. `transposed` gives the direction of a matrix: along its rows, or down its columns.
-ghost use mathlib.Core.Bool.{_&&_};
+ghost use mathlib.Core.Bool.{true, _&&_};
 ghost use mathlib.Core.Path.{_≡_};
 ghost use Prim.Native.Nat.{ℕ, _+_, _*_, _^_, _<_, _≤_};
 ghost use lib.Dec.{eqb};
-ghost use lib.ListN.{length, replicate};
-ghost use Rattle.model.specs.Numbers.{at, cell, oriented, same};
+ghost use lib.ListN.{length, replicate, set};
+ghost use Rattle.model.specs.Numbers.{at, cell, oriented, same, tabulate, transposed};
 ghost use Rattle.model.specs.Table.{portion, share};
 ghost use Rattle.model.specs.Rounds.{intermediate, round, weighted};
 ghost use Rattle.model.specs.Checks.{amountLimit, demandLimit};
-ghost use Rattle.theory.specs.Bounds.{sumLimit};
+ghost use Rattle.theory.specs.Bounds.{sumLimit, Narrow};
 
 // Sets every cell to 0.
 pub fn fill_zero(s: &mut [u64])
@@ -91,28 +91,114 @@ fn still_same(so_far: bool, a: u64, b: u64) -> bool
     false
 }
 
-// One round more, from `out` to `out`: every sector's start, and what industry takes of it at the amounts of the round before. Answers
-// whether the round changed no sector.
-pub fn turn(
-    n: usize,
-    d: &[u64],
-    transposed: bool,
-    start: &[u64],
-    out: &mut [u64],
-    work: &mut [u64],
-) -> bool
-    requires { ⌜ (length (now d) ≡ n * n) × (length (now start) ≡ n) × (length (now out) ≡ n) × (length (now work) ≡ n) ⌝ }
-    requires { ⌜ ((i : ℕ) → i < n → cell (now start) i ≤ demandLimit) ⌝ }
-    requires { ⌜ ((i : ℕ) → i < n → weighted n (oriented transposed (at n (now d))) (cell (now out)) i ≤ sumLimit) ⌝ }
-    ensures { λ r. ⌜ r ≡ same n (round n (oriented transposed (at n (now (d .entry)))) (now (start .entry)) (now (out .entry))) (now (out .entry)) ⌝ }
-    ensures { λ _. ⌜ now (out .exit) ≡ round n (oriented transposed (at n (now (d .entry)))) (now (start .entry)) (now (out .entry)) ⌝ }
+// Are all amounts below 2^32?
+fn is_narrow(amounts: &[u64]) -> bool
+    ensures { λ r. ⌜ (r ≡ true → Narrow (now (amounts .entry))) ⌝ }
+{
+    let mut bits: u64 = 0;
+    for j in 0..amounts.len() {
+        bits |= amounts[j];
+    }
+    bits < 4_294_967_296
+}
+
+// The same amount; where amounts are narrow the compiler is told so.
+fn narrowed(narrow: bool, amount: u64) -> u64
+    requires { ⌜ (narrow ≡ true → amount < 4294967296) ⌝ }
+    ensures { λ r. ⌜ r ≡ amount ⌝ }
+{
+    if narrow {
+        return amount % 4_294_967_296;
+    }
+    amount
+}
+
+// What industry takes of sectors i and i + 1, in one pass over the amounts. Narrow coefficients take one multiplication of 32 bits where the
+// amounts are narrow too, and two where they are not.
+fn intermediate_pair(n: usize, d: &[u64], narrow: bool, amounts: &[u64], i: usize, uses: &mut [u64])
+    requires { ⌜ (length (now d) ≡ n * n) × (length (now amounts) ≡ n) × (length (now uses) ≡ n) × (i + 1 < n) ⌝ }
+    requires { ⌜ Narrow (now d) × (narrow ≡ true → Narrow (now amounts)) ⌝ }
+    requires { ⌜ (weighted n (at n (now d)) (cell (now amounts)) i ≤ sumLimit) × (weighted n (at n (now d)) (cell (now amounts)) (i + 1) ≤ sumLimit) ⌝ }
+    ensures { λ _. ⌜ now (uses .exit) ≡ set (set (now (uses .entry)) i (intermediate n (at n (now (d .entry))) (cell (now (amounts .entry))) i)) (i + 1) (intermediate n (at n (now (d .entry))) (cell (now (amounts .entry))) (i + 1)) ⌝ }
+{
+    let mut first: u64 = 0;
+    let mut second: u64 = 0;
+    for j in 0..n {
+        let amount = narrowed(narrow, amounts[j]);
+        first += d[i * n + j] % 4_294_967_296 * amount;
+        second += d[(i + 1) * n + j] % 4_294_967_296 * amount;
+    }
+    uses[i] = first / 1_000_000;
+    uses[i + 1] = second / 1_000_000;
+}
+
+// What industry takes of every sector.
+fn intermediate_uses(n: usize, d: &[u64], amounts: &[u64], uses: &mut [u64])
+    requires { ⌜ (length (now d) ≡ n * n) × (length (now amounts) ≡ n) × (length (now uses) ≡ n) ⌝ }
+    requires { ⌜ Narrow (now d) ⌝ }
+    requires { ⌜ ((i : ℕ) → i < n → weighted n (at n (now d)) (cell (now amounts)) i ≤ sumLimit) ⌝ }
+    ensures { λ _. ⌜ now (uses .exit) ≡ tabulate n (intermediate n (at n (now (d .entry))) (cell (now (amounts .entry)))) ⌝ }
+{
+    let narrow = is_narrow(amounts);
+    let mut i: usize = 0;
+    while i + 1 < n {
+        intermediate_pair(n, d, narrow, amounts, i, uses);
+        i += 2;
+    }
+    if i < n {
+        uses[i] = intermediate_use(n, d, false, amounts, i);
+    }
+}
+
+// Every sector's start and what industry takes of it, into `out`. Answers whether no sector of `out` changes.
+fn advance(n: usize, start: &[u64], uses: &[u64], out: &mut [u64]) -> bool
+    requires { ⌜ (length (now start) ≡ n) × (length (now uses) ≡ n) × (length (now out) ≡ n) ⌝ }
+    requires { ⌜ ((i : ℕ) → i < n → cell (now start) i + cell (now uses) i < 2 ^ 64) ⌝ }
+    ensures { λ r. ⌜ r ≡ same n (tabulate n (λ i. cell (now (start .entry)) i + cell (now (uses .entry)) i)) (now (out .entry)) ⌝ }
+    ensures { λ _. ⌜ now (out .exit) ≡ tabulate n (λ i. cell (now (start .entry)) i + cell (now (uses .entry)) i) ⌝ }
 {
     let mut unchanged = true;
     for i in 0..n {
-        let amount = start[i] + intermediate_use(n, d, transposed, out, i);
+        let amount = start[i] + uses[i];
         unchanged = still_same(unchanged, amount, out[i]);
-        work[i] = amount;
+        out[i] = amount;
     }
-    copy_cells(work, out);
     unchanged
+}
+
+// One round more along the rows of d, from `out` to `out`: every sector's start, and what industry takes of it at the amounts of the round
+// before. Answers whether the round changed no sector.
+pub fn turn(n: usize, d: &[u64], start: &[u64], out: &mut [u64], work: &mut [u64]) -> bool
+    requires { ⌜ (length (now d) ≡ n * n) × (length (now start) ≡ n) × (length (now out) ≡ n) × (length (now work) ≡ n) ⌝ }
+    requires { ⌜ Narrow (now d) ⌝ }
+    requires { ⌜ ((i : ℕ) → i < n → cell (now start) i ≤ demandLimit) ⌝ }
+    requires { ⌜ ((i : ℕ) → i < n → weighted n (at n (now d)) (cell (now out)) i ≤ sumLimit) ⌝ }
+    ensures { λ r. ⌜ r ≡ same n (round n (at n (now (d .entry))) (now (start .entry)) (now (out .entry))) (now (out .entry)) ⌝ }
+    ensures { λ _. ⌜ now (out .exit) ≡ round n (at n (now (d .entry))) (now (start .entry)) (now (out .entry)) ⌝ }
+{
+    intermediate_uses(n, d, out, work);
+    advance(n, start, work, out)
+}
+
+// Writes column j of a matrix; the columns before it are kept.
+pub fn put_column(n: usize, j: usize, column: &[u64], sheet: &mut [u64])
+    requires { ⌜ (length (now sheet) ≡ n * n) × (length (now column) ≡ n) × (j < n) ⌝ }
+    ensures { λ _. ⌜ ((i : ℕ) → i < n → at n (now (sheet .exit)) i j ≡ cell (now (column .entry)) i) ⌝ }
+    ensures { λ _. ⌜ ((i k : ℕ) → k < j → at n (now (sheet .exit)) i k ≡ at n (now (sheet .entry)) i k) ⌝ }
+{
+    for i in 0..n {
+        sheet[i * n + j] = column[i];
+    }
+}
+
+// A matrix with its rows and columns exchanged.
+pub fn transpose(n: usize, d: &[u64], sheet: &mut [u64])
+    requires { ⌜ (length (now d) ≡ n * n) × (length (now sheet) ≡ n * n) ⌝ }
+    ensures { λ _. ⌜ ((i j : ℕ) → i < n → j < n → at n (now (sheet .exit)) i j ≡ transposed (at n (now (d .entry))) i j) ⌝ }
+{
+    for j in 0..n {
+        let start = j * n;
+        let end = start + n;
+        put_column(n, j, &d[start..end], sheet);
+    }
 }

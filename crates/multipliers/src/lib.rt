@@ -1,6 +1,7 @@
 // The Leontief inverse with its power and sensitivity of dispersion, and a sector's row of a sheet.
 use cells::cell_at;
 use cells::fill_zero;
+use cells::put_column;
 use checks::check_matrix;
 use model::Answer;
 use model::Outcome;
@@ -44,17 +45,6 @@ pub fn row<'a>(sheet: &'a [u64], n: usize, sector: usize) -> &'a [u64]
         return &sheet[start..end];
     }
     &sheet[0..0]
-}
-
-// Writes column j of a sheet; the columns before it are kept.
-fn put_column(n: usize, j: usize, column: &[u64], sheet: &mut [u64])
-    requires { ⌜ (length (now sheet) ≡ n * n) × (length (now column) ≡ n) × (j < n) ⌝ }
-    ensures { λ _. ⌜ ((i : ℕ) → i < n → at n (now (sheet .exit)) i j ≡ cell (now (column .entry)) i) ⌝ }
-    ensures { λ _. ⌜ ((i k : ℕ) → k < j → at n (now (sheet .exit)) i k ≡ at n (now (sheet .entry)) i k) ⌝ }
-{
-    for i in 0..n {
-        sheet[i * n + j] = column[i];
-    }
 }
 
 // Column j of the Leontief inverse: the production settled from one in sector j, or 0 in every cell.

@@ -1,14 +1,22 @@
 -- The tests and the fields of a record, case by case as the code asks them. Assumes nothing.
 use mathlib.Core.Bool.{Bool, true, false, _&&_, cond}
 use mathlib.Core.List.{List}
-use mathlib.Core.Path.{_≡_, refl, sym, ap, _∙_}
-use Prim.Native.Nat.{ℕ, _+_, _-_, _≤_, _<_}
+use mathlib.Core.Path.{_≡_, refl, sym, ap, _∙_, subst⁻¹}
+use Prim.Native.Nat.{ℕ, _+_, _*_, _-_, _/_, _%_, _^_, _≤_, _<_}
 use native.Mathlib.Omega.{arith}
-use borrow.Author.Tests.{lt-leb, le-leb, leb-true, leb-false, eq-eqb, ne-eqb}
-use lib.Dec.{leb}
+use borrow.Author.Tests.{lt-leb, le-leb, leb-true, leb-false, eq-eqb, ne-eqb, eqb-true}
+use lib.Dec.{eqb, leb}
 use lib.ListN.{length}
-use Rattle.model.specs.Numbers.{cell}
+use Rattle.model.specs.Numbers.{first, cell}
 use Rattle.model.specs.File.{Entry, recordLengths, columnLines, kindAt, isFlow, nextAt, wholeAt, insideAt, amountFrom, entryAt}
+use Rattle.theory.proofs.Lists.{first-before}
+
+-- a word that holds a number for each kind in digits, `bits` bits each; that they are those of a list is computed
+pub digits : (word bits base : ℕ) (xs : List ℕ) (k : ℕ) → k < 10 → first 10 (λ i. eqb (word / 2 ^ (bits * i) % base) (cell xs i)) ≡ 10
+    → word / 2 ^ (bits * k) % base ≡ cell xs k
+digits word bits base xs k h right =
+    eqb-true (word / 2 ^ (bits * k) % base) (cell xs k)
+    (first-before 10 (λ i. eqb (word / 2 ^ (bits * i) % base) (cell xs i)) k (subst⁻¹ (λ (m : ℕ). k < m) right h))
 
 -- a sector byte from 1 to n
 abbrev pub sector : ℕ → ℕ → Bool

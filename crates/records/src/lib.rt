@@ -9,11 +9,12 @@ ghost use Rattle.model.specs.File.{recordLengths, columnLines, wholeAt, insideA
 ghost use Rattle.records.specs.Bodies.{Body, Sectors};
 ghost use Rattle.records.specs.Marks.{marked};
 
-// Bytes of a record by its kind, the kind byte counted; 0 where there is no such kind.
-const LENGTHS: [usize; 10] = [0, 2, 7, 6, 6, 6, 6, 6, 1, 6];
+// Bytes of a record by its kind, the kind byte counted; 0 where there is no such kind. One word with a digit of base 16 for each kind, from
+// the right: an array would be made anew at each record.
+const LENGTHS: usize = 0x6_1_6_6_6_6_6_7_2_0;
 
-// The line of a column by its kind.
-const LINES: [usize; 10] = [0, 0, 0, 40, 41, 42, 43, 44, 0, 45];
+// The line of a column by its kind, in two digits of base 8 for each kind.
+const LINES: usize = 0o55_00_54_53_52_51_50_00_00_00;
 
 // A byte at the wider types.
 pub fn wide(b: u8) -> usize
@@ -33,7 +34,7 @@ pub fn record_length(kind: u8) -> usize
 {
     let k = wide(kind);
     if k < 10 {
-        return LENGTHS[k];
+        return (LENGTHS >> (4 * k)) % 16;
     }
     0
 }
@@ -43,7 +44,7 @@ fn column_line(kind: u8) -> usize
 {
     let k = wide(kind);
     if k < 10 {
-        return LINES[k];
+        return (LINES >> (6 * k)) % 64;
     }
     0
 }

@@ -1,6 +1,7 @@
 // Production from demand, prices from direct rises, and demand from production.
 use cells::copy_cells;
 use cells::fill_zero;
+use cells::transpose;
 use cells::turn;
 use checks::cells_within;
 use checks::check_domestic;
@@ -17,9 +18,60 @@ ghost use Rattle.model.specs.Rounds.{round, settled, settling, weighted, Settle
 ghost use Rattle.model.specs.Checks.{report, reportRounds, verdict, output, single, settles, bounded, demandLimit};
 ghost use Rattle.model.specs.Calls.{matrixChecks, priceReport, productionReport, settlingReport};
 ghost use Rattle.model.specs.Promises.{AcceptedMatrix, Accurate, AccuratePrices, Distinguishes};
+ghost use Rattle.theory.specs.Bounds.{Narrow, RoundsFit};
 
-// The settling loop: rounds from the start, which `out` holds, until one changes no sector. The count that it returns with the amounts is
-// the least settling index, and is never above the budget; without one it refuses with 9.
+// The settling loop along the rows of d: rounds from the start, which `out` holds, until one changes no sector. The count that it returns with
+// the amounts is the least settling index, and is never above the budget; without one it refuses with 9.
+fn run_rows(
+    n: usize,
+    d: &[u64],
+    start: &[u64],
+    budget: u32,
+    out: &mut [u64],
+    work: &mut [u64],
+) -> Outcome
+    requires { ⌜ (length (now d) ≡ n * n) × (length (now start) ≡ n) × (now out ≡ now start) × (length (now work) ≡ n) ⌝ }
+    requires { ⌜ ((i : ℕ) → i < n → cell (now start) i ≤ demandLimit) ⌝ }
+    requires { ⌜ Narrow (now d) × RoundsFit n (at n (now d)) (now start) ⌝ }
+    ensures { λ r. ⌜ reportRounds r ≡ verdict (single 9 (settles n (at n (now (d .entry))) (now (start .entry)) budget) ∷ []) (settling n (at n (now (d .entry))) (now (start .entry)) budget) ⌝ }
+    ensures { λ r. ⌜ (reportRounds r .accepted ≡ true → Settles n (at n (now (d .entry))) (now (start .entry)) (reportRounds r .rounds) (now (out .exit)) × (reportRounds r .rounds ≤ budget)) ⌝ }
+{
+    let mut done: u32 = 0;
+    while done < budget {
+        let unchanged = turn(n, d, start, out, work);
+        let count = done + 1;
+        if unchanged {
+            return Outcome::Settled { rounds: count };
+        }
+        done = count;
+    }
+    Outcome::Refused {
+        number: 9,
+        place: 0,
+    }
+}
+
+// The same down the columns of d, over a copy whose rows they are.
+fn run_columns(
+    n: usize,
+    d: &[u64],
+    start: &[u64],
+    budget: u32,
+    out: &mut [u64],
+    work: &mut [u64],
+) -> Outcome
+    requires { ⌜ AcceptedMatrix n (now d) × (length (now start) ≡ n) × (now out ≡ now start) × (length (now work) ≡ n) ⌝ }
+    requires { ⌜ ((i : ℕ) → i < n → cell (now start) i ≤ demandLimit) ⌝ }
+    ensures { λ r. ⌜ reportRounds r ≡ verdict (single 9 (settles n (transposed (at n (now (d .entry)))) (now (start .entry)) budget) ∷ []) (settling n (transposed (at n (now (d .entry)))) (now (start .entry)) budget) ⌝ }
+    ensures { λ r. ⌜ (reportRounds r .accepted ≡ true → Settles n (transposed (at n (now (d .entry)))) (now (start .entry)) (reportRounds r .rounds) (now (out .exit)) × (reportRounds r .rounds ≤ budget)) ⌝ }
+{
+    let mut rows = [0u64; 1600];
+    let cells = n * n;
+    transpose(n, d, &mut rows[..cells]);
+    run_rows(n, &rows[..cells], start, budget, out, work)
+}
+
+// Rounds from the start, which `out` holds, along the rows of d or, transposed, down its columns.
 fn run_rounds(
     n: usize,
     d: &[u64],
@@ -34,19 +86,10 @@ fn run_rounds(
     ensures { λ r. ⌜ reportRounds r ≡ verdict (single 9 (settles n (oriented transposed (at n (now (d .entry)))) (now (start .entry)) budget) ∷ []) (settling n (oriented transposed (at n (now (d .entry)))) (now (start .entry)) budget) ⌝ }
     ensures { λ r. ⌜ (reportRounds r .accepted ≡ true → Settles n (oriented transposed (at n (now (d .entry)))) (now (start .entry)) (reportRounds r .rounds) (now (out .exit)) × (reportRounds r .rounds ≤ budget)) ⌝ }
 {
-    let mut done: u32 = 0;
-    while done < budget {
-        let unchanged = turn(n, d, transposed, start, out, work);
-        let count = done + 1;
-        if unchanged {
-            return Outcome::Settled { rounds: count };
-        }
-        done = count;
+    if transposed {
+        return run_columns(n, d, start, budget, out, work);
     }
-    Outcome::Refused {
-        number: 9,
-        place: 0,
-    }
+    run_rows(n, d, start, budget, out, work)
 }
 
 // The settled amounts of a start, or number 9 with the outputs at 0; the work cells are cleared.

@@ -11,6 +11,7 @@ pub mod Accuracy
 pub mod Verdicts
 pub mod Answers
 pub mod Tables
+pub mod Alike
 pub mod Promises
 pub mod Prepared
 pub mod Encoding

@@ -1,7 +1,7 @@
 -- Lists written from the front, lists made by a rule, searches, and the test for sameness. Assumes nothing.
 use mathlib.Core.Bool.{Bool, true, false, _&&_, false≢true}
 use mathlib.Core.List.{List, [], _∷_}
-use mathlib.Core.Path.{_≡_, refl, sym, ap, _∙_}
+use mathlib.Core.Path.{_≡_, refl, sym, ap, _∙_, subst⁻¹}
 use Prim.Native.Nat.{ℕ, zero, suc, _+_, _<_, _≤_, suc-le-suc}
 use native.Mathlib.Nat.{not-suc-le-zero, le-of-suc-le-suc, le-step, lt-suc-self, zero-lt-suc, ne-of-lt, lt-of-lt-of-le, le-refl}
 use native.Mathlib.Numerals.{add-one}
@@ -10,7 +10,7 @@ use borrow.Author.Count.{below-more}
 use borrow.Author.Tests.{eq-eqb, eqb-true}
 use lib.Dec.{eqb}
 use lib.ListN.{length, set, replicate, length-replicate, getD-replicate}
-use lib.Seq.{ext-getD, getD-set-same, getD-set-other}
+use lib.Seq.{ext-getD, getD-set-same, getD-set-other, lt-length-set}
 use Rattle.model.specs.Numbers.{first, all, tabulate, cell, same}
 use Rattle.model.specs.Promises.{Equal}
 use Rattle.theory.proofs.Sums.{upto}
@@ -28,6 +28,13 @@ agree-set l i f v h e before =
     below-more (λ k. cell (set l i v) k ≡ f k) i
     (λ k lt. getD-set-other l i k v 0 (ne-of-lt lt) ∙ before k lt)
     (getD-set-same l i v 0 h ∙ e)
+
+-- two places at once
+pub agree-two : (l : List ℕ) (i : ℕ) (f : ℕ → ℕ) → i + 1 < length l → Agree l i f → Agree (set (set l i (f i)) (i + 1) (f (i + 1))) (i + 2) f
+agree-two l i f h before =
+    let two : i + 2 ≡ i + 1 + 1 = omega arith in
+    subst⁻¹ (λ (k : ℕ). Agree (set (set l i (f i)) (i + 1) (f (i + 1))) k f) two
+    (agree-set (set l i (f i)) (i + 1) f (f (i + 1)) (lt-length-set l i (f i) h) refl (agree-set l i f (f i) (omega arith) refl before))
 
 pub length-tabulate : (n : ℕ) (f : ℕ → ℕ) → length (tabulate n f) ≡ n
 length-tabulate zero f = refl

@@ -9,11 +9,11 @@ use native.Mathlib.Omega.{arith}
 use native.Mathlib.Nat.{le-refl, le-trans, le-of-eq, le-antisymm, mul-le-mul-left, mul-le-mul-right, mul-comm, mul-left-comm, le-div-iff-mul-le, mul-div-le, mul-add}
 use borrow.Author.Tests.{not-false}
 use lib.ListN.{length}
-use Rattle.model.specs.Numbers.{one, sum, cell, same}
+use Rattle.model.specs.Numbers.{one, sum, tabulate, cell, same}
 use Rattle.model.specs.Rounds.{product, weighted, intermediate, round, rounds, changes, Settles, ExactBalance, impliedDemand}
 use Rattle.model.specs.Promises.{Equal}
 use Rattle.theory.proofs.Sums.{sum-mono, sum-cong, sum-add, sum-scale}
-use Rattle.theory.proofs.Lists.{length-tabulate, cell-tabulate, agreed, same-equal}
+use Rattle.theory.proofs.Lists.{length-tabulate, cell-tabulate, tabulate-cong, agreed, same-equal}
 
 module _ (n : ℕ) (c : ℕ → ℕ → ℕ) where
   -- ---- weighted sums
@@ -60,6 +60,13 @@ module _ (n : ℕ) (c : ℕ → ℕ → ℕ) where
     pub round-cell : (y : List ℕ) (i : ℕ) → i < n → cell (round n c s y) i ≡ cell s i + intermediate n c (cell y) i
     unfolding round
     round-cell y i h = cell-tabulate n (λ i. cell s i + intermediate n c (cell y) i) i h
+
+    -- a round from what industry takes of every sector
+    pub round-made : (y u : List ℕ) → u ≡ tabulate n (intermediate n c (cell y)) → tabulate n (λ i. cell s i + cell u i) ≡ round n c s y
+    unfolding round
+    round-made y u e =
+        tabulate-cong n
+        (λ i h. ap (λ (w : ℕ). cell s i + w) (ap (λ (l : List ℕ). cell l i) e ∙ cell-tabulate n (intermediate n c (cell y)) i h))
 
     pub length-round : (y : List ℕ) → length (round n c s y) ≡ n
     unfolding round

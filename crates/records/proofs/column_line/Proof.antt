@@ -1,15 +1,16 @@
--- `records::column_line` meets its contract. Assumes nothing.
-use mathlib.Core.Path.{sym, ap}
+-- `records::column_line` meets its contract: the digits of each kind are its line. Assumes nothing.
+use mathlib.Core.Path.{refl, sym, ap, _∙_}
 use native.Mathlib.Omega.{arith}
 use borrow.Author.Needs.{needs}
 use lib.ListN.{List·getD-eq-default}
 use Rattle.model.specs.Numbers.{cell}
 use Rattle.model.specs.File.{columnLines}
+use Rattle.records.proofs.RecordLaws.{digits}
 use Rattle.records.proofs.column_line.Statement.{statement}
 use Rattle.records.proofs.column_line.Tie as tie
 
 returns : tie.Need-returns
-returns c = ap (cell columnLines) (c .before .wide .ensures .0)
+returns c = digits _ 6 64 columnLines (c .before .wide .result) (c .if1 .taken) refl ∙ ap (cell columnLines) (c .before .wide .ensures .0)
 
 returns-2 : tie.Need-returns-2
 returns-2 c = sym (List·getD-eq-default columnLines 0 {n = c .before .before .args .kind} (omega arith))

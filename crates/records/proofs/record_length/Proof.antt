@@ -1,15 +1,16 @@
--- `records::record_length` meets its contract. Assumes nothing.
-use mathlib.Core.Path.{sym, ap}
+-- `records::record_length` meets its contract: the digit of each kind is its length. Assumes nothing.
+use mathlib.Core.Path.{refl, sym, ap, _∙_}
 use native.Mathlib.Omega.{arith}
 use borrow.Author.Needs.{needs}
 use lib.ListN.{List·getD-eq-default}
 use Rattle.model.specs.Numbers.{cell}
 use Rattle.model.specs.File.{recordLengths}
+use Rattle.records.proofs.RecordLaws.{digits}
 use Rattle.records.proofs.record_length.Statement.{statement}
 use Rattle.records.proofs.record_length.Tie as tie
 
 returns : tie.Need-returns
-returns c = ap (cell recordLengths) (c .before .wide .ensures .0)
+returns c = digits _ 4 16 recordLengths (c .before .wide .result) (c .if1 .taken) refl ∙ ap (cell recordLengths) (c .before .wide .ensures .0)
 
 returns-2 : tie.Need-returns-2
 returns-2 c = sym (List·getD-eq-default recordLengths 0 {n = c .before .before .args .kind} (omega arith))

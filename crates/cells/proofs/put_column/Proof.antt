@@ -1,4 +1,4 @@
--- `multipliers::put_column` meets its contract: the rows before i have the column, and the columns before j are kept. Assumes nothing.
+-- `cells::put_column` meets its contract: the rows before i have the column, and the columns before j are kept. Assumes nothing.
 use mathlib.Core.Path.{_≡_, refl, _∙_}
 use Prim.Native.Nat.{ℕ, _+_, _*_, _≤_, _-_, _<_}
 use native.Mathlib.Nat.{ne-of-lt, lt-trans}
@@ -9,8 +9,8 @@ use lib.Seq.{getD-set-same, getD-set-other}
 use Rattle.model.specs.Numbers.{at, cell}
 use Rattle.theory.proofs.Sums.{cell-in}
 use Rattle.theory.proofs.Matrices.{place-once}
-use Rattle.multipliers.proofs.put_column.Statement.{statement}
-use Rattle.multipliers.proofs.put_column.Tie as tie
+use Rattle.cells.proofs.put_column.Statement.{statement}
+use Rattle.cells.proofs.put_column.Tie as tie
 
 abbrev Inv-loop : tie.InvT-loop
 Inv-loop n j column sheet₀ i₀ sheet i =
