@@ -1,16 +1,16 @@
--- What a reading may be: a refusal with a number up to 15 and a place up to 12,649, or 1 to 40 sectors; and how many cells it gives. Assumes nothing.
+-- What a reading may be: a refusal with a number up to 15 and a place up to 12,649, or 1 to 40 sectors. Assumes nothing.
 use mathlib.Core.Bool.{Bool, true, false, _&&_, cond}
 use mathlib.Core.List.{List, [], _∷_}
-use mathlib.Core.Path.{_≡_, refl, subst, _∙_}
-use Prim.Native.Nat.{ℕ, zero, suc, _+_, _*_, _≤_}
+use mathlib.Core.Path.{_≡_, refl, subst}
+use Prim.Native.Nat.{ℕ, zero, suc, _+_, _≤_}
 use native.Mathlib.Nat.{le-refl}
 use native.Mathlib.Omega.{arith}
 use borrow.Author.Tests.{leb-false, leb-true, ltb-true, ltb-false}
 use lib.Dec.{eqb, leb, ltb, lit≤}
-use lib.ListN.{length, take, set, length-set, length-replicate}
+use lib.ListN.{length, take}
 use lib.Seq.{length-take-le}
 use Rattle.model.specs.Numbers.{cell}
-use Rattle.model.specs.File.{Entry, kindAt, nextAt, wholeAt, insideAt, entryAt, named, Reading, walk, reading, flowsOf, columnOf}
+use Rattle.model.specs.File.{Entry, kindAt, nextAt, wholeAt, insideAt, entryAt, named, Reading, walk, reading}
 use Rattle.theory.proofs.Lists.{and-true}
 use Rattle.theory.proofs.Prefixes.{prefix-answers}
 
@@ -76,20 +76,3 @@ reading-answered s = split (ltb (length s) 12649) refl
         let start = take 12649 s in
         subst (Answered 12649) (prefix-answers 12649 s (le-refl 12649) long)
         (answered-more (length start) 12649 (reading start) (omega (arith, length-take-le 12649 s long)) (whole-answered start))
-
--- an accepted file has 1 to 40 sectors
-pub read-sized : (s : List ℕ) (n : ℕ) (es : List Entry) → reading s ≡ Reading.table n es → (1 ≤ n) × (n ≤ 40)
-read-sized s n es e = subst (Answered 12649) e (reading-answered s)
-
--- ---- the cells that it names, among all that a slice has
-length-chosen : (b : Bool) (l : List ℕ) (i a : ℕ) → length (cond b (set l i a) l) ≡ length l
-length-chosen true l i a = length-set l i a
-length-chosen false l i a = refl
-
-pub length-flows : (n : ℕ) (es : List Entry) → length (flowsOf n es) ≡ 1600
-length-flows n [] = length-replicate {A = ℕ} 1600 0
-length-flows n (e ∷ es) = length-chosen (ltb (e .line) 40) (flowsOf n es) (e .line * n + e .position) (e .amount) ∙ length-flows n es
-
-pub length-column : (l : ℕ) (es : List Entry) → length (columnOf l es) ≡ 40
-length-column l [] = length-replicate {A = ℕ} 40 0
-length-column l (e ∷ es) = length-chosen (eqb (e .line) l) (columnOf l es) (e .position) (e .amount) ∙ length-column l es
