@@ -178,7 +178,7 @@ pub fn demand_left(n: usize, d: &[u64], y: &[u64]) -> Answer
     ensures { λ r. ⌜ report r ≡ verdict (demandLeft n (at n (now (d .entry))) (now (y .entry)) ∷ []) 0 ⌝ }
 {
     for i in 0..n {
-        if y[i] < intermediate_use(n, d, false, y, i) {
+        if y[i] < intermediate_use(n, d, y, i) {
             return Answer::Refused {
                 number: 10,
                 place: i,

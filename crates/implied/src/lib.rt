@@ -48,7 +48,7 @@ fn subtract(n: usize, d: &[u64], y: &[u64], out: &mut [u64])
     ensures { λ _. ⌜ now (out .exit) ≡ impliedDemand n (at n (now (d .entry))) (now (y .entry)) ⌝ }
 {
     for i in 0..n {
-        out[i] = y[i] - intermediate_use(n, d, false, y, i);
+        out[i] = y[i] - intermediate_use(n, d, y, i);
     }
 }
 

@@ -49,7 +49,7 @@ fn fill_imports(n: usize, a: &[u64], m: &[u64], final_demand: &[u64], y: &[u64],
     ensures { λ _. ⌜ now (out .exit) ≡ inducedImports n (at n (now (a .entry))) (now (m .entry)) (now («final_demand» .entry)) (now (y .entry)) ⌝ }
 {
     for i in 0..n {
-        let need = intermediate_use(n, a, false, y, i);
+        let need = intermediate_use(n, a, y, i);
         out[i] = portion_of(m[i], need + final_demand[i]);
     }
 }

@@ -20,17 +20,19 @@ ghost use Rattle.model.specs.Calls.{matrixChecks, priceReport, productionReport
 ghost use Rattle.model.specs.Promises.{AcceptedMatrix, Accurate, AccuratePrices, Distinguishes};
 ghost use Rattle.theory.specs.Bounds.{Narrow, RoundsFit};
 
-// The settling loop along the rows of d: rounds from the start, which `out` holds, until one changes no sector. The count that it returns with
-// the amounts is the least settling index, and is never above the budget; without one it refuses with 9.
-fn run_rows(
+// The settling loop along the rows of d: rounds from the start, which `out` holds, until one changes no sector. At first there are no sums, and
+// all of the start is rise. The count that it returns with the amounts is the least settling index, and is never above the budget; without
+// one it refuses with 9.
+fn run_turns(
     n: usize,
     d: &[u64],
     start: &[u64],
     budget: u32,
     out: &mut [u64],
-    work: &mut [u64],
+    rises: &mut [u64],
+    sums: &mut [u64],
 ) -> Outcome
-    requires { ⌜ (length (now d) ≡ n * n) × (length (now start) ≡ n) × (now out ≡ now start) × (length (now work) ≡ n) ⌝ }
+    requires { ⌜ (length (now d) ≡ n * n) × (length (now start) ≡ n) × (now out ≡ now start) × (now rises ≡ now start) × (now sums ≡ replicate n 0) ⌝ }
     requires { ⌜ ((i : ℕ) → i < n → cell (now start) i ≤ demandLimit) ⌝ }
     requires { ⌜ Narrow (now d) × RoundsFit n (at n (now d)) (now start) ⌝ }
     ensures { λ r. ⌜ reportRounds r ≡ verdict (single 9 (settles n (at n (now (d .entry))) (now (start .entry)) budget) ∷ []) (settling n (at n (now (d .entry))) (now (start .entry)) budget) ⌝ }
@@ -38,7 +40,7 @@ fn run_rows(
 {
     let mut done: u32 = 0;
     while done < budget {
-        let unchanged = turn(n, d, start, out, work);
+        let unchanged = turn(n, d, start, out, rises, sums);
         let count = done + 1;
         if unchanged {
             return Outcome::Settled { rounds: count };
@@ -49,6 +51,26 @@ fn run_rows(
         number: 9,
         place: 0,
     }
+}
+
+// Rounds along the rows of d from the start, which `out` holds.
+fn run_rows(
+    n: usize,
+    d: &[u64],
+    start: &[u64],
+    budget: u32,
+    out: &mut [u64],
+    work: &mut [u64],
+) -> Outcome
+    requires { ⌜ (n ≤ 40) × (length (now d) ≡ n * n) × (length (now start) ≡ n) × (now out ≡ now start) × (length (now work) ≡ n) ⌝ }
+    requires { ⌜ ((i : ℕ) → i < n → cell (now start) i ≤ demandLimit) ⌝ }
+    requires { ⌜ Narrow (now d) × RoundsFit n (at n (now d)) (now start) ⌝ }
+    ensures { λ r. ⌜ reportRounds r ≡ verdict (single 9 (settles n (at n (now (d .entry))) (now (start .entry)) budget) ∷ []) (settling n (at n (now (d .entry))) (now (start .entry)) budget) ⌝ }
+    ensures { λ r. ⌜ (reportRounds r .accepted ≡ true → Settles n (at n (now (d .entry))) (now (start .entry)) (reportRounds r .rounds) (now (out .exit)) × (reportRounds r .rounds ≤ budget)) ⌝ }
+{
+    let mut sums = [0u64; 40];
+    copy_cells(start, work);
+    run_turns(n, d, start, budget, out, work, &mut sums[..n])
 }
 
 // The same down the columns of d, over a copy whose rows they are.

@@ -6,6 +6,7 @@ pub mod Matrices
 pub mod Shares
 pub mod Gauge
 pub mod Rounds
+pub mod Rises
 pub mod Settling
 pub mod Accuracy
 pub mod Verdicts

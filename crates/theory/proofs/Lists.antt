@@ -9,8 +9,8 @@ use native.Mathlib.Omega.{arith}
 use borrow.Author.Count.{below-more}
 use borrow.Author.Tests.{eq-eqb, eqb-true}
 use lib.Dec.{eqb}
-use lib.ListN.{length, set, replicate, length-replicate, getD-replicate}
-use lib.Seq.{ext-getD, getD-set-same, getD-set-other, lt-length-set}
+use lib.ListN.{length, set, replicate, take, length-replicate, getD-replicate}
+use lib.Seq.{ext-getD, getD-set-same, getD-set-other, lt-length-set, length-take-le, getD-take}
 use Rattle.model.specs.Numbers.{first, all, tabulate, cell, same}
 use Rattle.model.specs.Promises.{Equal}
 use Rattle.theory.proofs.Sums.{upto}
@@ -29,12 +29,24 @@ agree-set l i f v h e before =
     (λ k lt. getD-set-other l i k v 0 (ne-of-lt lt) ∙ before k lt)
     (getD-set-same l i v 0 h ∙ e)
 
+-- ---- a list that is written over from the front
+-- the first i cells are those of f, the others still those of m
+abbrev pub Over : List ℕ → ℕ → (ℕ → ℕ) → List ℕ → Type 0
+Over l i f m = Agree l i f × ((k : ℕ) → i ≤ k → cell l k ≡ cell m k)
+
+pub over-none : (l : List ℕ) (f : ℕ → ℕ) → Over l 0 f l
+over-none l f = (agree-none l f, λ k h. refl)
+
+pub over-set : (l : List ℕ) (i : ℕ) (f : ℕ → ℕ) (m : List ℕ) (v : ℕ) → i < length l → v ≡ f i → Over l i f m → Over (set l i v) (i + 1) f m
+over-set l i f m v h e (before, rest) =
+    (agree-set l i f v h e before, λ k g. let lt : i < k = omega arith in getD-set-other l i k v 0 (λ p. ne-of-lt lt (sym p)) ∙ rest k (omega arith))
+
 -- two places at once
-pub agree-two : (l : List ℕ) (i : ℕ) (f : ℕ → ℕ) → i + 1 < length l → Agree l i f → Agree (set (set l i (f i)) (i + 1) (f (i + 1))) (i + 2) f
-agree-two l i f h before =
+pub over-two : (l : List ℕ) (i : ℕ) (f : ℕ → ℕ) (m : List ℕ) → i + 1 < length l → Over l i f m → Over (set (set l i (f i)) (i + 1) (f (i + 1))) (i + 2) f m
+over-two l i f m h o =
     let two : i + 2 ≡ i + 1 + 1 = omega arith in
-    subst⁻¹ (λ (k : ℕ). Agree (set (set l i (f i)) (i + 1) (f (i + 1))) k f) two
-    (agree-set (set l i (f i)) (i + 1) f (f (i + 1)) (lt-length-set l i (f i) h) refl (agree-set l i f (f i) (omega arith) refl before))
+    subst⁻¹ (λ (k : ℕ). Over (set (set l i (f i)) (i + 1) (f (i + 1))) k f m) two
+    (over-set (set l i (f i)) (i + 1) f m (f (i + 1)) (lt-length-set l i (f i) h) refl (over-set l i f m (f i) (omega arith) refl o))
 
 pub length-tabulate : (n : ℕ) (f : ℕ → ℕ) → length (tabulate n f) ≡ n
 length-tabulate zero f = refl
@@ -61,6 +73,13 @@ pub zeroed : (n i : ℕ) (l : List ℕ) → length l ≡ n → n ≤ i → Agree
 zeroed n i l e h p =
     agreed n n l (replicate n 0) e (length-replicate n 0) (le-refl n)
     (λ k lt. p k (lt-of-lt-of-le lt h) ∙ sym (getD-replicate n k 0 0 lt))
+
+-- a part of an array of zeros
+pub zeros-part : (n m : ℕ) → n ≤ m → take {A = ℕ} n (replicate m 0) ≡ replicate n 0
+zeros-part n m h =
+    let zeros : List ℕ = replicate m 0 in
+    zeroed n n (take n zeros) (length-take-le n zeros (subst⁻¹ (λ (k : ℕ). n ≤ k) (length-replicate {A = ℕ} m 0) h)) (le-refl n)
+    (λ k lt. getD-take n zeros k 0 lt ∙ getD-replicate m k 0 0 (lt-of-lt-of-le lt h))
 
 -- ---- the first place below n at which a test fails
 -- the test passes at every place below i

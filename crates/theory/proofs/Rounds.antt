@@ -61,13 +61,6 @@ module _ (n : ℕ) (c : ℕ → ℕ → ℕ) where
     unfolding round
     round-cell y i h = cell-tabulate n (λ i. cell s i + intermediate n c (cell y) i) i h
 
-    -- a round from what industry takes of every sector
-    pub round-made : (y u : List ℕ) → u ≡ tabulate n (intermediate n c (cell y)) → tabulate n (λ i. cell s i + cell u i) ≡ round n c s y
-    unfolding round
-    round-made y u e =
-        tabulate-cong n
-        (λ i h. ap (λ (w : ℕ). cell s i + w) (ap (λ (l : List ℕ). cell l i) e ∙ cell-tabulate n (intermediate n c (cell y)) i h))
-
     pub length-round : (y : List ℕ) → length (round n c s y) ≡ n
     unfolding round
     length-round y = length-tabulate n (λ i. cell s i + intermediate n c (cell y) i)
@@ -87,6 +80,10 @@ module _ (n : ℕ) (c : ℕ → ℕ → ℕ) where
     rising zero i h = omega (arith, rounds-cell 0 i h)
     rising (suc k) i h =
         omega (arith, rounds-cell k i h, rounds-cell (suc k) i h, intermediate-mono (rising k) i)
+
+    pub rising-from : (k : ℕ) (y : List ℕ) → y ≡ rounds n c s k → (i : ℕ) → i < n → cell y i ≤ cell (round n c s y) i
+    unfolding rounds
+    rising-from k y e i h = rw e (rising k i h)
 
     pub above-start : (k i : ℕ) → i < n → cell s i ≤ cell (rounds n c s k) i
     unfolding rounds

@@ -1,4 +1,5 @@
 -- What contracts cite beside the definitions of `model`.
 pub mod Bounds
+pub mod Rises
 pub mod Tables
 pub mod Files

@@ -55,7 +55,7 @@ run-rows-requires c κs =
     let A = s .pre .0 .0 in
     let start = s .args .start .now in
     let alike = q .transpose .ensures in (
-      (ap length (stored q) ∙ rows-length q, s .pre .0 .1, s .pre .0 .2, s .pre .0 .3),
+      (A .few, ap length (stored q) ∙ rows-length q, s .pre .0 .1, s .pre .0 .2, s .pre .0 .3),
       (
         s .pre .1,
         (

@@ -10,7 +10,7 @@ run-rows-requires : tie.Need-run-rows-requires
 run-rows-requires c κs =
     let s = c .before .before .before .before .before .before .before in
     let A = s .pre .0 .0 in (
-      (A .cells, s .pre .0 .1, s .pre .0 .2, s .pre .0 .3),
+      (A .few, A .cells, s .pre .0 .1, s .pre .0 .2, s .pre .0 .3),
       (s .pre .1, (matrix-narrow A, rounds-fit A (s .args .start .now) (s .pre .1) false)),
     )
 

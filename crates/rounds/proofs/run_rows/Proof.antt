@@ -1,100 +1,34 @@
--- `rounds::run_rows` meets its contract: out has the amounts after `done` rounds, each of which changed a sector. Assumes nothing.
-use mathlib.Core.Path.{_≡_, refl, sym, _∙_, ap}
-use mathlib.Core.Bool.{false≢true}
-use Prim.Native.Nat.{ℕ, _+_, _≤_, _-_}
-use native.Mathlib.Omega.{arith}
-use lib.ListN.{length}
-use Rattle.model.specs.Numbers.{at}
-use Rattle.model.specs.Rounds.{rounds, changes, Settles}
-use Rattle.theory.proofs.Lists.{All}
-use Rattle.theory.proofs.Settling.{none-yet, turn-amounts, turn-settles, turn-more}
-use Rattle.theory.proofs.Answers.{nine-passed, nine-failed}
+-- `rounds::run_rows` meets its contract, by that of the loop: the array of sums starts at 0. Assumes nothing.
+use mathlib.Core.Path.{_≡_, sym, ap, _∙_}
+use Prim.Native.Nat.{ℕ}
+use borrow.Author.Needs.{needs}
+use lib.ListN.{length, length-replicate, replicate, take}
+use Rattle.theory.proofs.Lists.{zeros-part}
 use Rattle.rounds.proofs.run_rows.Statement.{statement}
 use Rattle.rounds.proofs.run_rows.Tie as tie
 
-abbrev Inv-loop : tie.InvT-loop
-Inv-loop n d start budget out₀ work₀ done₀ out work done =
-    (done ≤ budget) × (length out ≡ length out₀) × (length work ≡ length work₀)
-    × (out ≡ rounds n (at n d) start done) × All (changes n (at n d) start) (done + 1)
+abbrev entry : tie.After-copy-cells → tie.Start
+entry q = q .before .before .before .before .before .before
 
-abbrev μ-loop : tie.MeasureT-loop
-μ-loop n d start budget out₀ work₀ done₀ out work done = budget - done
+abbrev copied : tie.After-sums → tie.After-copy-cells
+copied c = c .before .before .before .before .before
 
-abbrev entry : tie.At-loop Inv-loop μ-loop → tie.Start Inv-loop μ-loop
-entry p = p .before .before .before .before .before
+-- the part of the array that is lent
+sums : (s : tie.Start) → take {A = ℕ} (s .args .n) (replicate 40 0) ≡ replicate (s .args .n) 0
+sums s = zeros-part (s .args .n) 40 (s .pre .0 .0)
 
-abbrev coefficients : tie.At-loop Inv-loop μ-loop → ℕ → ℕ → ℕ
-coefficients p = let a = entry p .args in at (a .n) (a .d .now)
+copy-cells-requires : tie.Need-copy-cells-requires
+copy-cells-requires c κs = let s = c .before .before .before .before .before in s .pre .0 .4 ∙ sym (s .pre .0 .2)
 
--- after the call in a turn: the loop's head, and the turn's law over it
-abbrev head : tie.After-turn Inv-loop μ-loop → tie.At-loop Inv-loop μ-loop
-head q = q .before .before .before .before
-
-abbrev after : tie.Then1 Inv-loop μ-loop → tie.After-turn Inv-loop μ-loop
-after c = c .before .before .before .before .before
-
-settles :
-    (c : tie.Then1 Inv-loop μ-loop) →
-    let p = head (after c) in
-    Settles (entry p .args .n) (coefficients p) (entry p .args .start .now) (p .loop .done + 1) (after c .turn .last .1 .1 .1 .0)
-settles c =
-    let p = head (after c) in
-    turn-settles (entry p .args .n) (coefficients p) (entry p .args .start .now) (p .loop .done) (p .loop .out) (p .loop .inv .3) (p .loop .inv .4)
-    (after c .turn .ensures .1) (sym (c .if1 .taken) ∙ after c .turn .ensures .0)
-
-loop-holds : tie.Need-loop-holds Inv-loop μ-loop
-unfolding rounds
-loop-holds c =
-    let s = c .before .before .before .before in
-    (omega arith, refl, refl, s .pre .0 .2, none-yet _ _ _)
-
-turn-requires : tie.Need-turn-requires Inv-loop μ-loop
-turn-requires c κs =
-    let p = c .before .before .before in
-    let l = p .loop in
-    let s = entry p in (
-      (s .pre .0 .0, s .pre .0 .1, l .inv .1 ∙ ap length (s .pre .0 .2) ∙ s .pre .0 .1, l .inv .2 ∙ s .pre .0 .3),
-      (s .pre .1 .1 .0, (s .pre .1 .0, rw (l .inv .3) (s .pre .1 .1 .1 (l .done)))),
-    )
-
-same-length : tie.Need-same-length Inv-loop μ-loop
-same-length c =
-    let q = after c in
-    q .turn .kept .1 .1 .1 .0 ∙ head q .loop .inv .1
-
-same-length-2 : tie.Need-same-length-2 Inv-loop μ-loop
-same-length-2 c =
-    let q = after c in
-    q .turn .kept .1 .1 .1 .1 .0 ∙ head q .loop .inv .2
-
-returns : tie.Need-returns Inv-loop μ-loop
-returns c =
-    let p = head (after c) in
-    let σ = settles c in
-    (nine-passed (entry p .args .n) (coefficients p) (entry p .args .start .now) (entry p .args .budget) σ (omega arith), λ _. (σ, omega arith))
-
-loop-again : tie.Need-loop-again Inv-loop μ-loop
-loop-again c =
-    let q = c .before .before .before .before .before in
-    let p = head q in
-    let l = p .loop in
-    let a = entry p .args in (
-      omega arith,
-      q .turn .kept .1 .1 .1 .0 ∙ l .inv .1,
-      q .turn .kept .1 .1 .1 .1 .0 ∙ l .inv .2,
-      turn-amounts (a .n) (coefficients p) (a .start .now) (l .done) (l .out) (l .inv .3) (l .inv .4) (q .turn .ensures .1),
-      turn-more (a .n) (coefficients p) (a .start .now) (l .done) (l .out) (l .inv .3) (l .inv .4) (sym (c .if1 .left) ∙ q .turn .ensures .0),
-    )
-
-returns-2 : tie.Need-returns-2 Inv-loop μ-loop
-returns-2 c =
-    let l = c .before .loop in
-    let a = entry (c .before) .args in
-    (nine-failed (a .n) (coefficients (c .before)) (a .start .now) (a .budget) (λ k h. l .inv .4 k (omega arith)), λ e. absurd (false≢true e))
+run-turns-requires : tie.Need-run-turns-requires
+run-turns-requires c κs =
+    let q = copied c in
+    let s = entry q in
+    ((s .pre .0 .1, s .pre .0 .2, s .pre .0 .3, q .copy-cells .ensures, sums s), s .pre .1)
 
 pub run-rows-spec : {M : Type 1} → statement M
 run-rows-spec =
     tie.close
     (tie.spec
-    Inv-loop μ-loop loop-holds turn-requires (λ c. omega arith) same-length same-length-2 returns
-    (λ c. omega arith) loop-again (λ c. omega arith) (λ c. omega arith) returns-2)
+    copy-cells-requires (λ c. search needs) (λ c. let s = entry (copied c) in sym (ap length (sums s) ∙ length-replicate {A = ℕ} (s .args .n) 0)) run-turns-requires
+    (λ c. search needs) (λ c. search needs) (λ c. c .before .before .before .before .before .run-turns .ensures))
