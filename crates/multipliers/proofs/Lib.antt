@@ -1,4 +1,3 @@
--- Laws of rows, of the Leontief inverse, and of its ratios.
+-- Laws of rows, and that an inverse is ready for its ratios.
 pub mod Rows
-pub mod Leontief
-pub mod Dispersion
+pub mod Ready

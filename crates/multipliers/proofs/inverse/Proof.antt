@@ -9,11 +9,11 @@ use Rattle.model.specs.Numbers.{at, oriented, transposed}
 use Rattle.model.specs.Rounds.{dispersion, inverse}
 use Rattle.model.specs.Checks.{Report, reportRounds, output}
 use Rattle.model.specs.declared.Outcome.{Outcome}
-use Rattle.multipliers.specs.Columns.{Dispersed}
+use Rattle.dispersion.specs.Columns.{Dispersed}
 use Rattle.theory.proofs.Lists.{all-equal}
 use Rattle.theory.proofs.Verdicts.{output-given}
-use Rattle.multipliers.proofs.Leontief.{accepted-inverse}
-use Rattle.multipliers.proofs.Dispersion.{inverse-ready}
+use Rattle.columns.proofs.Leontief.{accepted-inverse}
+use Rattle.multipliers.proofs.Ready.{inverse-ready}
 use Rattle.multipliers.proofs.inverse.Statement.{statement}
 use Rattle.multipliers.proofs.inverse.Tie as tie
 

@@ -1,0 +1,2 @@
+-- Laws of the Leontief inverse.
+pub mod Leontief

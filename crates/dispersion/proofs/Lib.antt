@@ -1,0 +1,2 @@
+-- Laws of the sums of a sheet.
+pub mod Dispersion

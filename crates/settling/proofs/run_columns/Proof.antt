@@ -1,0 +1,95 @@
+-- `settling::run_columns` meets its contract: the rows of the copy are alike to the columns of d, so their rounds are the same. Assumes nothing.
+use mathlib.Core.List.{List, [], _∷_, _++_}
+use mathlib.Core.Bool.{true}
+use mathlib.Core.Path.{_≡_, sym, ap, subst, subst⁻¹, _∙_}
+use Prim.Native.Nat.{ℕ, _*_, _≤_}
+use native.Mathlib.Nat.{mul-le-mul}
+use borrow.Author.Needs.{needs}
+use lib.ListN.{length, replicate, take, drop}
+use lib.Seq.{length-take-le, take-at, length-front}
+use Rattle.model.specs.Numbers.{at, transposed}
+use Rattle.model.specs.Rounds.{settling, Settles}
+use Rattle.model.specs.Checks.{reportRounds, verdict, single, settles}
+use Rattle.theory.specs.Bounds.{Narrow, RoundsFit}
+use Rattle.theory.proofs.Alike.{nine-alike, settles-alike, fits-alike, transposed-narrow}
+use Rattle.theory.proofs.Promises.{rounds-fit}
+use Rattle.settling.proofs.run_columns.Statement.{statement}
+use Rattle.settling.proofs.run_columns.Tie as tie
+
+abbrev zeros : List ℕ
+zeros = replicate 1600 0
+
+small : (s : tie.Start) → s .args .n * s .args .n ≤ 1600
+small s = mul-le-mul (s .pre .0 .0 .few) (s .pre .0 .0 .few)
+
+-- the part of the array that is lent
+part : (s : tie.Start) → length (take (s .args .n * s .args .n) zeros) ≡ s .args .n * s .args .n
+part s = length-take-le (s .args .n * s .args .n) zeros (small s)
+
+abbrev entry : tie.After-transpose → tie.Start
+entry q = q .before .before .before .before .before .before
+
+-- the copy, and that it is what is lent to the rounds
+abbrev rows : tie.After-transpose → List ℕ
+rows q = q .transpose .last .1 .1 .0
+
+rows-length : (q : tie.After-transpose) → length (rows q) ≡ entry q .args .n * entry q .args .n
+rows-length q = q .transpose .kept .1 .1 .0 ∙ part (entry q)
+
+stored : (q : tie.After-transpose) → let m = entry q .args .n * entry q .args .n in take m (rows q ++ drop m zeros) ≡ rows q
+stored q =
+    let m = entry q .args .n * entry q .args .n in
+    take-at (rows q) (drop m zeros) m (rows-length q)
+
+rows-part : tie.Need-array-share-prefix-rows
+rows-part c =
+    let q = c .before in
+    let m = entry q .args .n * entry q .args .n in
+    subst⁻¹ (λ (k : ℕ). m ≤ k) (length-front zeros (rows q) m (q .transpose .kept .1 .1 .0)) (small (entry q))
+
+run-rows-requires : tie.Need-run-rows-requires
+run-rows-requires c κs =
+    let q = c .before .before .before .before in
+    let s = entry q in
+    let n = s .args .n in
+    let A = s .pre .0 .0 in
+    let start = s .args .start .now in
+    let alike = q .transpose .ensures in (
+      (A .few, ap length (stored q) ∙ rows-length q, s .pre .0 .1, s .pre .0 .2, s .pre .0 .3),
+      (
+        s .pre .1,
+        (
+          subst⁻¹ Narrow (stored q) (transposed-narrow A (rows q) (rows-length q) alike),
+          subst⁻¹ (λ (t : List ℕ). RoundsFit n (at n t) start) (stored q)
+              (fits-alike n (at n (rows q)) (transposed (at n (s .args .d .now))) alike start (rounds-fit A start (s .pre .1) true)),
+        ),
+      ),
+    )
+
+returns : tie.Need-returns
+returns c =
+    let q = c .before .before .before .before .before .before .before .before .before in
+    let r = c .before .before .before .before .run-rows in
+    let a = entry q .args in
+    let n = a .n in
+    let s = a .start .now in
+    let b = a .budget in
+    let e = at n (rows q) in
+    let t = transposed (at n (a .d .now)) in
+    let alike = q .transpose .ensures in (
+      r .ensures .0
+          ∙ ap (λ (l : List ℕ). verdict (single 9 (settles n (at n l) s b) ∷ []) (settling n (at n l) s b)) (stored q)
+          ∙ nine-alike n e t alike s b,
+      λ h.
+          let p = r .ensures .1 h in
+          (settles-alike n e t alike s (subst (λ (l : List ℕ). Settles n (at n l) s (reportRounds (r .result) .rounds) (r .last .1 .1 .1 .1 .0)) (stored q) (p .0)), p .1),
+    )
+
+pub run-columns-spec : {M : Type 1} → statement M
+run-columns-spec =
+    tie.close
+    (tie.spec
+    (λ c. search needs) (λ c. small (c .before .before .before .before)) (λ c. sym (part (c .before .before .before .before .before)))
+    (λ c κs. let s = c .before .before .before .before .before in (s .pre .0 .0 .cells, part s)) rows-part
+    (λ c. let q = c .before .before in sym (ap length (stored q) ∙ rows-length q)) run-rows-requires
+    (λ c. search needs) (λ c. search needs) returns)
