@@ -1,4 +1,4 @@
--- `coefficients::fill_domestic` meets its contract: the cells below k are those of the definition. Assumes nothing.
+-- `sheets::fill_domestic` meets its contract: the cells below k are those of the definition. Assumes nothing.
 use mathlib.Core.Path.{_≡_, sym, ap, _∙_}
 use Prim.Native.Nat.{_*_, _-_, _/_, _%_, _≤_, _<_}
 use native.Mathlib.Nat.{mul-le-mul, sub-le}
@@ -8,8 +8,8 @@ use Rattle.model.specs.Numbers.{one, at, cell}
 use Rattle.model.specs.Table.{portion}
 use Rattle.theory.proofs.Lists.{Agree, agree-none, agree-set, tabulated}
 use Rattle.theory.proofs.Matrices.{place-row, place-cell}
-use Rattle.coefficients.proofs.fill_domestic.Statement.{statement}
-use Rattle.coefficients.proofs.fill_domestic.Tie as tie
+use Rattle.sheets.proofs.fill_domestic.Statement.{statement}
+use Rattle.sheets.proofs.fill_domestic.Tie as tie
 
 abbrev Inv-loop : tie.InvT-loop
 Inv-loop n a m d₀ cells k₀ d k = (k ≤ n * n) × (length d ≡ n * n) × Agree d k (λ p. portion (one - cell m (p / n)) (at n a (p / n) (p % n)))

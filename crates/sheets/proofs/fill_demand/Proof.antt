@@ -1,4 +1,4 @@
--- `coefficients::fill_demand` meets its contract: the cells below i are those of the definition. Assumes nothing.
+-- `sheets::fill_demand` meets its contract: the cells below i are those of the definition. Assumes nothing.
 use mathlib.Core.Path.{_≡_, ap}
 use Prim.Native.Nat.{ℕ, _+_, _-_, _≤_}
 use native.Mathlib.Nat.{mul-le-mul, sub-le}
@@ -8,8 +8,8 @@ use Rattle.model.specs.Numbers.{one, cell}
 use Rattle.model.specs.Table.{portion}
 use Rattle.theory.proofs.Lists.{Agree, agree-none, agree-set, tabulated}
 use Rattle.theory.proofs.Shares.{portion-le}
-use Rattle.coefficients.proofs.fill_demand.Statement.{statement}
-use Rattle.coefficients.proofs.fill_demand.Tie as tie
+use Rattle.sheets.proofs.fill_demand.Statement.{statement}
+use Rattle.sheets.proofs.fill_demand.Tie as tie
 
 abbrev Inv-loop : tie.InvT-loop
 Inv-loop n m demand exports f₀ i₀ f i = (i ≤ n) × (length f ≡ n) × Agree f i (λ k. portion (one - cell m k) (cell demand k) + cell exports k)

@@ -1,4 +1,4 @@
--- `coefficients::fill_imports` meets its contract: the cells below i are those of the definition. Assumes nothing.
+-- `sheets::fill_imports` meets its contract: the cells below i are those of the definition. Assumes nothing.
 use mathlib.Core.Path.{_≡_, ap, _∙_}
 use Prim.Native.Nat.{_-_, _≤_}
 use native.Mathlib.Omega.{arith}
@@ -6,8 +6,8 @@ use lib.ListN.{length, length-set}
 use Rattle.model.specs.Numbers.{cell}
 use Rattle.model.specs.Table.{absorption, share}
 use Rattle.theory.proofs.Lists.{Agree, agree-none, agree-set, tabulated}
-use Rattle.coefficients.proofs.fill_imports.Statement.{statement}
-use Rattle.coefficients.proofs.fill_imports.Tie as tie
+use Rattle.sheets.proofs.fill_imports.Statement.{statement}
+use Rattle.sheets.proofs.fill_imports.Tie as tie
 
 abbrev Inv-loop : tie.InvT-loop
 Inv-loop n x demand imports m₀ i₀ m i = (i ≤ n) × (length m ≡ n) × Agree m i (λ k. share (cell imports k) (absorption n x demand k))

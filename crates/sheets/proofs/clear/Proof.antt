@@ -1,7 +1,7 @@
--- `coefficients::clear` meets its contract, by that of what it calls. Assumes nothing.
+-- `sheets::clear` meets its contract, by that of what it calls. Assumes nothing.
 use borrow.Author.Needs.{needs}
-use Rattle.coefficients.proofs.clear.Statement.{statement}
-use Rattle.coefficients.proofs.clear.Tie as tie
+use Rattle.sheets.proofs.clear.Statement.{statement}
+use Rattle.sheets.proofs.clear.Tie as tie
 
 returns : tie.Need-returns
 returns c = (

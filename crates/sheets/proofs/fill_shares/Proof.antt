@@ -1,4 +1,4 @@
--- `coefficients::fill_shares` meets its contract: the cells below j are those of the definition. Assumes nothing.
+-- `sheets::fill_shares` meets its contract: the cells below j are those of the definition. Assumes nothing.
 use mathlib.Core.Path.{_≡_}
 use Prim.Native.Nat.{_-_, _≤_}
 use native.Mathlib.Omega.{arith}
@@ -6,8 +6,8 @@ use lib.ListN.{length, length-set}
 use Rattle.model.specs.Numbers.{cell}
 use Rattle.model.specs.Table.{share}
 use Rattle.theory.proofs.Lists.{Agree, agree-none, agree-set, tabulated}
-use Rattle.coefficients.proofs.fill_shares.Statement.{statement}
-use Rattle.coefficients.proofs.fill_shares.Tie as tie
+use Rattle.sheets.proofs.fill_shares.Statement.{statement}
+use Rattle.sheets.proofs.fill_shares.Tie as tie
 
 abbrev Inv-loop : tie.InvT-loop
 Inv-loop n part whole out₀ j₀ out j = (j ≤ n) × (length out ≡ n) × Agree out j (λ k. share (cell part k) (cell whole k))

@@ -1,4 +1,4 @@
--- `coefficients::finish` meets its contract, by cases on question 7. Assumes nothing.
+-- `sheets::finish` meets its contract, by cases on question 7. Assumes nothing.
 use mathlib.Core.List.{List, [], _∷_}
 use mathlib.Core.Path.{_≡_, refl, sym, ap, _∙_}
 use Prim.Native.Nat.{ℕ, _-_}
@@ -7,8 +7,8 @@ use lib.ListN.{replicate}
 use Rattle.model.specs.Numbers.{one, at, cell, matrix}
 use Rattle.model.specs.Table.{portion}
 use Rattle.model.specs.Checks.{report, verdict, columnSums}
-use Rattle.coefficients.proofs.finish.Statement.{statement}
-use Rattle.coefficients.proofs.finish.Tie as tie
+use Rattle.sheets.proofs.finish.Statement.{statement}
+use Rattle.sheets.proofs.finish.Tie as tie
 
 abbrev entry : tie.After-columns-within → tie.Start
 entry q = q .before .before .before .before .before .before .before .before .before .before .before .before .before .before .before .before .before .before .before .before

@@ -1,4 +1,4 @@
--- `coefficients::fill_inputs` meets its contract: the cells below k are those of the definition. Assumes nothing.
+-- `sheets::fill_inputs` meets its contract: the cells below k are those of the definition. Assumes nothing.
 use mathlib.Core.Path.{_≡_, sym, ap, _∙_}
 use Prim.Native.Nat.{ℕ, _*_, _-_, _/_, _%_, _≤_, _<_}
 use native.Mathlib.Nat.{mul-le-mul}
@@ -8,8 +8,8 @@ use Rattle.model.specs.Numbers.{at, cell}
 use Rattle.model.specs.Table.{share}
 use Rattle.theory.proofs.Lists.{Agree, agree-none, agree-set, tabulated}
 use Rattle.theory.proofs.Matrices.{place-column, place-cell}
-use Rattle.coefficients.proofs.fill_inputs.Statement.{statement}
-use Rattle.coefficients.proofs.fill_inputs.Tie as tie
+use Rattle.sheets.proofs.fill_inputs.Statement.{statement}
+use Rattle.sheets.proofs.fill_inputs.Tie as tie
 
 abbrev Inv-loop : tie.InvT-loop
 Inv-loop n x production a₀ cells k₀ a k = (k ≤ n * n) × (length a ≡ n * n) × Agree a k (λ p. share (at n x (p / n) (p % n)) (cell production (p % n)))
