@@ -1,3 +1,2 @@
--- The page at each call's way out, and by what the reader answers.
-pub mod Stages
+-- The page by what the reader answers.
 pub mod Readers

@@ -6,7 +6,7 @@ use borrow.Author.Needs.{needs}
 use lib.ListN.{take}
 use Rattle.model.specs.Table.{tableOf}
 use Rattle.model.specs.Page.{refusalLine, tablePage, page}
-use Rattle.page.proofs.Stages.{told, room}
+use Rattle.stages.proofs.Stages.{told, room}
 use Rattle.page.proofs.Readers.{file-stop, file-on, read-few}
 use Rattle.page.proofs.file_page.Statement.{statement}
 use Rattle.page.proofs.file_page.Tie as tie

@@ -7,7 +7,7 @@ use borrow.Author.Needs.{needs}
 use lib.ListN.{length}
 use Rattle.model.specs.Page.{printed}
 use Rattle.theory.proofs.Pages.{page-fits, printed-none, printed-page, printed-fits}
-use Rattle.page.proofs.Stages.{Page, told}
+use Rattle.stages.proofs.Stages.{Page, told}
 use Rattle.page.proofs.write_page.Statement.{statement}
 use Rattle.page.proofs.write_page.Tie as tie
 

@@ -1,11 +1,11 @@
--- `page::sheets_page` meets its contract: a table of at most 40 sectors finds room in the arrays. Assumes nothing.
+-- `table_page::sheets_page` meets its contract: a table of at most 40 sectors finds room in the arrays. Assumes nothing.
 use Prim.Native.Nat.{_*_, _≤_}
 use native.Mathlib.Nat.{mul-le-mul}
 use native.Mathlib.Omega.{arith}
 use borrow.Author.Needs.{needs}
-use Rattle.page.proofs.Stages.{told, room, part, cut}
-use Rattle.page.proofs.sheets_page.Statement.{statement}
-use Rattle.page.proofs.sheets_page.Tie as tie
+use Rattle.stages.proofs.Stages.{told, room, part, cut}
+use Rattle.table_page.proofs.sheets_page.Statement.{statement}
+use Rattle.table_page.proofs.sheets_page.Tie as tie
 
 abbrev start : tie.After-slice-known → tie.Start
 start c = c .before .before .before .before .before .before .before

@@ -1,4 +1,4 @@
--- `page::induced_page` meets its contract, by cases on what the call answers. Assumes nothing.
+-- `stages::induced_page` meets its contract, by cases on what the call answers. Assumes nothing.
 use mathlib.Core.List.{List}
 use mathlib.Core.Path.{_≡_, sym, ap, _∙_}
 use Prim.Native.Nat.{ℕ}
@@ -8,9 +8,9 @@ use Rattle.model.specs.Numbers.{at}
 use Rattle.model.specs.Rounds.{inducedValueAdded, inducedImports}
 use Rattle.model.specs.Checks.{Report, report, output}
 use Rattle.model.specs.Page.{refusalLine, sheet, inducedPage}
-use Rattle.page.proofs.Stages.{told, room, induced-stop, induced-on}
-use Rattle.page.proofs.induced_page.Statement.{statement}
-use Rattle.page.proofs.induced_page.Tie as tie
+use Rattle.stages.proofs.Stages.{told, room, induced-stop, induced-on}
+use Rattle.stages.proofs.induced_page.Statement.{statement}
+use Rattle.stages.proofs.induced_page.Tie as tie
 
 abbrev start : tie.After-induced → tie.Start
 start q = q .before .before .before .before .before .before .before .before .before .before .before .before

@@ -1,4 +1,4 @@
--- `page::table_page` meets its contract, by cases on what the call answers. Assumes nothing.
+-- `table_page::table_page` meets its contract, by cases on what the call answers. Assumes nothing.
 use mathlib.Core.Path.{_≡_, sym, ap, _∙_}
 use borrow.Author.Needs.{needs}
 use lib.ListN.{length}
@@ -6,9 +6,9 @@ use Rattle.model.specs.Table.{Table, tableOf}
 use Rattle.model.specs.Checks.{Report, report, output}
 use Rattle.model.specs.Calls.{inputCoefficients, valueAddedCoefficients, importCoefficients, domesticCoefficients, domesticDemands}
 use Rattle.model.specs.Page.{refusalLine, productionPage, tablePage}
-use Rattle.page.proofs.Stages.{told, room, part, table-stop, table-on}
-use Rattle.page.proofs.table_page.Statement.{statement}
-use Rattle.page.proofs.table_page.Tie as tie
+use Rattle.stages.proofs.Stages.{told, room, part, table-stop, table-on}
+use Rattle.table_page.proofs.table_page.Statement.{statement}
+use Rattle.table_page.proofs.table_page.Tie as tie
 
 abbrev start : tie.After-coefficients → tie.Start
 start q = q .before .before .before .before .before .before .before .before .before .before .before .before .before .before .before .before .before .before

@@ -1,4 +1,4 @@
--- `page::production_page` meets its contract, by cases on what the call answers. Assumes nothing.
+-- `stages::production_page` meets its contract, by cases on what the call answers. Assumes nothing.
 use mathlib.Core.List.{List}
 use mathlib.Core.Path.{_≡_, sym, ap, _∙_}
 use Prim.Native.Nat.{ℕ}
@@ -8,9 +8,9 @@ use Rattle.model.specs.Numbers.{at}
 use Rattle.model.specs.Rounds.{settled}
 use Rattle.model.specs.Checks.{Report, reportRounds, output}
 use Rattle.model.specs.Page.{pageBudget, refusalLine, inducedPage, productionPage}
-use Rattle.page.proofs.Stages.{told, room, part, production-stop, production-on}
-use Rattle.page.proofs.production_page.Statement.{statement}
-use Rattle.page.proofs.production_page.Tie as tie
+use Rattle.stages.proofs.Stages.{told, room, part, production-stop, production-on}
+use Rattle.stages.proofs.production_page.Statement.{statement}
+use Rattle.stages.proofs.production_page.Tie as tie
 
 abbrev start : tie.After-production → tie.Start
 start q = q .before .before .before .before .before .before .before .before .before .before .before .before

@@ -1,0 +1,2 @@
+-- The page at the way out of each call.
+pub mod Stages
