@@ -10,7 +10,7 @@ use lib.ListN.{length, take, drop, length-drop, drop-of-length-le}
 use lib.Seq.{length-take-le}
 use Rattle.model.specs.Rounds.{rowSlice}
 use Rattle.multipliers.proofs.Rows.{Row, has-row}
-use Rattle.capi.specs.Told.{ToldRow}
+use Rattle.tell.specs.Told.{ToldRow}
 
 module _ (n : ℕ) (d : List ℕ) (i : ℕ) where
   -- a row that is not empty is in its sheet

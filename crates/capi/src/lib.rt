@@ -2,15 +2,15 @@
 use coefficients::coefficients;
 use implied::implied_demand;
 use induced::induced;
-use model::Answer;
-use model::Outcome;
-use model::TableRead;
 use multipliers::inverse;
 use multipliers::row;
 use page::write_page;
 use rounds::price;
 use rounds::production;
 use table_file::read_table;
+use tell::tell_answer;
+use tell::tell_outcome;
+use tell::tell_read;
 ghost use mathlib.Core.Bool.{true};
 ghost use mathlib.Core.List.{List, [], _∷_};
 ghost use mathlib.Core.Path.{_≡_};
@@ -20,85 +20,13 @@ ghost use lib.Seq.{sets};
 ghost use Rattle.model.specs.Numbers.{at, transposed};
 ghost use Rattle.model.specs.Table.{tableOf};
 ghost use Rattle.model.specs.Rounds.{dispersion, impliedDemand, inducedImports, inducedValueAdded, inverse, settled};
-ghost use Rattle.model.specs.Checks.{accepts, output, report, reportRounds};
+ghost use Rattle.model.specs.Checks.{accepts, output};
 ghost use Rattle.model.specs.Calls.{coefficientsReport, domesticCoefficients, domesticDemands, impliedReport, importCoefficients, inducedReport, inputCoefficients, inverseReport, priceReport, productionReport, valueAddedCoefficients};
 ghost use Rattle.model.specs.Promises.{Accurate, AccuratePrices, Distinguishes, NotAbove, Returns};
 ghost use Rattle.model.specs.File.{answerOf, called, reportRead};
 ghost use Rattle.model.specs.Page.{printed};
 ghost use Rattle.table_file.specs.Reader.{Delivered};
-ghost use Rattle.capi.specs.Told.{Told, ToldRead, ToldRounds, ToldRow};
-
-// An answer without a count.
-fn tell_answer(answer: Answer, number: &mut u8, place: &mut usize)
-    ensures { λ _. ⌜ Told (report answer) (now (number .exit)) (now (place .exit)) ⌝ }
-{
-    match answer {
-        Answer::Refused {
-            number: q,
-            place: p,
-        } => {
-            *number = q;
-            *place = p;
-        }
-        Answer::Accepted => {
-            *number = 0;
-            *place = 0;
-        }
-    }
-}
-
-// An answer with a count of rounds.
-fn tell_outcome(outcome: Outcome, number: &mut u8, place: &mut usize, rounds: &mut u32)
-    ensures { λ _. ⌜ ToldRounds (reportRounds outcome) (now (number .exit)) (now (place .exit)) (now (rounds .exit)) ⌝ }
-{
-    match outcome {
-        Outcome::Refused {
-            number: q,
-            place: p,
-        } => {
-            *number = q;
-            *place = p;
-            *rounds = 0;
-        }
-        Outcome::Settled { rounds: k } => {
-            *number = 0;
-            *place = 0;
-            *rounds = k;
-        }
-    }
-}
-
-// The reader's answer.
-fn tell_read(
-    answer: TableRead,
-    number: &mut u8,
-    place: &mut usize,
-    sectors: &mut usize,
-    named: &mut usize,
-)
-    ensures { λ _. ⌜ ToldRead (reportRead answer) (now (number .exit)) (now (place .exit)) (now (sectors .exit)) (now (named .exit)) ⌝ }
-{
-    match answer {
-        TableRead::Refused {
-            number: q,
-            place: p,
-        } => {
-            *number = q;
-            *place = p;
-            *sectors = 0;
-            *named = 0;
-        }
-        TableRead::Read {
-            sectors: n,
-            named: k,
-        } => {
-            *number = 0;
-            *place = 0;
-            *sectors = n;
-            *named = k;
-        }
-    }
-}
+ghost use Rattle.tell.specs.Told.{Told, ToldRead, ToldRounds, ToldRow};
 
 // The sheets of a table. Asks 1 to 7.
 #[no_mangle]

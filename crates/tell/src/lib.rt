@@ -1,0 +1,79 @@
+// Answers told through lent numbers, for callers that have no enums. A refusal's counts are 0.
+use model::Answer;
+use model::Outcome;
+use model::TableRead;
+ghost use Rattle.model.specs.Checks.{report, reportRounds};
+ghost use Rattle.model.specs.File.{reportRead};
+ghost use Rattle.tell.specs.Told.{Told, ToldRead, ToldRounds};
+
+// An answer without a count.
+pub fn tell_answer(answer: Answer, number: &mut u8, place: &mut usize)
+    ensures { λ _. ⌜ Told (report answer) (now (number .exit)) (now (place .exit)) ⌝ }
+{
+    match answer {
+        Answer::Refused {
+            number: q,
+            place: p,
+        } => {
+            *number = q;
+            *place = p;
+        }
+        Answer::Accepted => {
+            *number = 0;
+            *place = 0;
+        }
+    }
+}
+
+// An answer with a count of rounds.
+pub fn tell_outcome(outcome: Outcome, number: &mut u8, place: &mut usize, rounds: &mut u32)
+    ensures { λ _. ⌜ ToldRounds (reportRounds outcome) (now (number .exit)) (now (place .exit)) (now (rounds .exit)) ⌝ }
+{
+    match outcome {
+        Outcome::Refused {
+            number: q,
+            place: p,
+        } => {
+            *number = q;
+            *place = p;
+            *rounds = 0;
+        }
+        Outcome::Settled { rounds: k } => {
+            *number = 0;
+            *place = 0;
+            *rounds = k;
+        }
+    }
+}
+
+// The reader's answer.
+pub fn tell_read(
+    answer: TableRead,
+    number: &mut u8,
+    place: &mut usize,
+    sectors: &mut usize,
+    named: &mut usize,
+)
+    ensures { λ _. ⌜ ToldRead (reportRead answer) (now (number .exit)) (now (place .exit)) (now (sectors .exit)) (now (named .exit)) ⌝ }
+{
+    match answer {
+        TableRead::Refused {
+            number: q,
+            place: p,
+        } => {
+            *number = q;
+            *place = p;
+            *sectors = 0;
+            *named = 0;
+        }
+        TableRead::Read {
+            sectors: n,
+            named: k,
+        } => {
+            *number = 0;
+            *place = 0;
+            *sectors = n;
+            *named = k;
+        }
+    }
+}
