@@ -2,7 +2,7 @@
 use Prim.Native.Nat.{ℕ, _*_, _≤_, _<_}
 use native.Mathlib.Nat.{le-trans}
 use native.Mathlib.Omega.{arith}
-use Rattle.model.specs.Numbers.{sum, transposed}
+use Rattle.model.specs.Numbers.{transposed}
 use Rattle.dispersion.specs.Columns.{columnSum, allCells, cellLimit, columnLimit, Dispersed}
 use Rattle.theory.proofs.Sums.{sum-mono, sum-const, sum-cell}
 

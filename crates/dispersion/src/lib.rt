@@ -1,7 +1,7 @@
 // The ratios of a sheet: each column sum, or each row sum, against all cells.
 use cells::cell_at;
 ghost use mathlib.Core.Path.{_≡_};
-ghost use Prim.Native.Nat.{ℕ, _*_, _<_};
+ghost use Prim.Native.Nat.{_*_, _<_};
 ghost use lib.ListN.{length};
 ghost use Rattle.model.specs.Numbers.{at, oriented};
 ghost use Rattle.model.specs.Rounds.{dispersion};

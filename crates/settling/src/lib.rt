@@ -4,16 +4,16 @@ use cells::fill_zero;
 use cells::transpose;
 use model::Outcome;
 use turns::turn;
-ghost use mathlib.Core.Bool.{true};
 ghost use mathlib.Core.List.{[], _∷_};
 ghost use mathlib.Core.Path.{_≡_};
 ghost use Prim.Native.Nat.{ℕ, _*_, _<_, _≤_};
 ghost use lib.ListN.{length, replicate};
 ghost use Rattle.model.specs.Numbers.{at, cell, oriented, transposed};
-ghost use Rattle.model.specs.Rounds.{settled, settling, Settles};
+ghost use Rattle.model.specs.Rounds.{settled, settling};
 ghost use Rattle.model.specs.Checks.{reportRounds, verdict, output, single, settles, demandLimit};
 ghost use Rattle.model.specs.Promises.{AcceptedMatrix};
 ghost use Rattle.theory.specs.Bounds.{Narrow, RoundsFit};
+ghost use Rattle.theory.specs.Search.{Searched};
 
 // The settling loop along the rows of d: rounds from the start, which `out` holds, until one changes no sector. At first there are no sums, and
 // all of the start is rise. The count that it returns with the amounts is the least settling index, and is never above the budget; without
@@ -30,8 +30,7 @@ fn run_turns(
     requires { ⌜ (length (now d) ≡ n * n) × (length (now start) ≡ n) × (now out ≡ now start) × (now rises ≡ now start) × (now sums ≡ replicate n 0) ⌝ }
     requires { ⌜ ((i : ℕ) → i < n → cell (now start) i ≤ demandLimit) ⌝ }
     requires { ⌜ Narrow (now d) × RoundsFit n (at n (now d)) (now start) ⌝ }
-    ensures { λ r. ⌜ reportRounds r ≡ verdict (single 9 (settles n (at n (now (d .entry))) (now (start .entry)) budget) ∷ []) (settling n (at n (now (d .entry))) (now (start .entry)) budget) ⌝ }
-    ensures { λ r. ⌜ (reportRounds r .accepted ≡ true → Settles n (at n (now (d .entry))) (now (start .entry)) (reportRounds r .rounds) (now (out .exit)) × (reportRounds r .rounds ≤ budget)) ⌝ }
+    ensures { λ r. ⌜ Searched n (at n (now (d .entry))) (now (start .entry)) budget (reportRounds r) (now (out .exit)) ⌝ }
 {
     let mut done: u32 = 0;
     while done < budget {
@@ -60,8 +59,7 @@ fn run_rows(
     requires { ⌜ (n ≤ 40) × (length (now d) ≡ n * n) × (length (now start) ≡ n) × (now out ≡ now start) × (length (now work) ≡ n) ⌝ }
     requires { ⌜ ((i : ℕ) → i < n → cell (now start) i ≤ demandLimit) ⌝ }
     requires { ⌜ Narrow (now d) × RoundsFit n (at n (now d)) (now start) ⌝ }
-    ensures { λ r. ⌜ reportRounds r ≡ verdict (single 9 (settles n (at n (now (d .entry))) (now (start .entry)) budget) ∷ []) (settling n (at n (now (d .entry))) (now (start .entry)) budget) ⌝ }
-    ensures { λ r. ⌜ (reportRounds r .accepted ≡ true → Settles n (at n (now (d .entry))) (now (start .entry)) (reportRounds r .rounds) (now (out .exit)) × (reportRounds r .rounds ≤ budget)) ⌝ }
+    ensures { λ r. ⌜ Searched n (at n (now (d .entry))) (now (start .entry)) budget (reportRounds r) (now (out .exit)) ⌝ }
 {
     let mut sums = [0u64; 40];
     copy_cells(start, work);
@@ -79,8 +77,7 @@ fn run_columns(
 ) -> Outcome
     requires { ⌜ AcceptedMatrix n (now d) × (length (now start) ≡ n) × (now out ≡ now start) × (length (now work) ≡ n) ⌝ }
     requires { ⌜ ((i : ℕ) → i < n → cell (now start) i ≤ demandLimit) ⌝ }
-    ensures { λ r. ⌜ reportRounds r ≡ verdict (single 9 (settles n (transposed (at n (now (d .entry)))) (now (start .entry)) budget) ∷ []) (settling n (transposed (at n (now (d .entry)))) (now (start .entry)) budget) ⌝ }
-    ensures { λ r. ⌜ (reportRounds r .accepted ≡ true → Settles n (transposed (at n (now (d .entry)))) (now (start .entry)) (reportRounds r .rounds) (now (out .exit)) × (reportRounds r .rounds ≤ budget)) ⌝ }
+    ensures { λ r. ⌜ Searched n (transposed (at n (now (d .entry)))) (now (start .entry)) budget (reportRounds r) (now (out .exit)) ⌝ }
 {
     let mut rows = [0u64; 1600];
     let cells = n * n;
@@ -100,8 +97,7 @@ fn run_rounds(
 ) -> Outcome
     requires { ⌜ AcceptedMatrix n (now d) × (length (now start) ≡ n) × (now out ≡ now start) × (length (now work) ≡ n) ⌝ }
     requires { ⌜ ((i : ℕ) → i < n → cell (now start) i ≤ demandLimit) ⌝ }
-    ensures { λ r. ⌜ reportRounds r ≡ verdict (single 9 (settles n (oriented transposed (at n (now (d .entry)))) (now (start .entry)) budget) ∷ []) (settling n (oriented transposed (at n (now (d .entry)))) (now (start .entry)) budget) ⌝ }
-    ensures { λ r. ⌜ (reportRounds r .accepted ≡ true → Settles n (oriented transposed (at n (now (d .entry)))) (now (start .entry)) (reportRounds r .rounds) (now (out .exit)) × (reportRounds r .rounds ≤ budget)) ⌝ }
+    ensures { λ r. ⌜ Searched n (oriented transposed (at n (now (d .entry)))) (now (start .entry)) budget (reportRounds r) (now (out .exit)) ⌝ }
 {
     if transposed {
         return run_columns(n, d, start, budget, out, work);

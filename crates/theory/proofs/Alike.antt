@@ -9,9 +9,10 @@ use lib.Dec.{leb}
 use lib.ListN.{length}
 use Rattle.model.specs.Numbers.{one, first, cell, same, at, transposed}
 use Rattle.model.specs.Rounds.{weighted, intermediate, round, rounds, changes, settling, Settles}
-use Rattle.model.specs.Checks.{verdict, single, settles}
+use Rattle.model.specs.Checks.{Report, verdict, single, settles}
 use Rattle.model.specs.Promises.{AcceptedMatrix}
 use Rattle.theory.specs.Bounds.{RoundsFit, Narrow, sumLimit}
+use Rattle.theory.specs.Search.{Searched}
 use Rattle.theory.proofs.Sums.{sum-cong, sum-cell, cell-in}
 use Rattle.theory.proofs.Lists.{tabulate-cong}
 use Rattle.theory.proofs.Matrices.{place-row, place-column, place-cell}
@@ -43,17 +44,20 @@ module _ (n : ℕ) (c e : ℕ → ℕ → ℕ) (alike : Alike n c e) where
     settling-alike budget = ap (first (suc budget)) (fun-ext changes-alike)
 
     -- question 9, and what settles
-    pub nine-alike : (budget : ℕ)
+    nine-alike : (budget : ℕ)
         → verdict (single 9 (settles n c s budget) ∷ []) (settling n c s budget) ≡ verdict (single 9 (settles n e s budget) ∷ []) (settling n e s budget)
     nine-alike budget = ap (λ (k : ℕ). verdict (single 9 (leb k budget) ∷ []) k) (settling-alike budget)
 
-    pub settles-alike : {k : ℕ} {y : List ℕ} → Settles n c s k y → Settles n e s k y
+    settles-alike : {k : ℕ} {y : List ℕ} → Settles n c s k y → Settles n e s k y
     settles-alike {k} σ =
         record {
           unchanged = sym (changes-alike k) ∙ σ .unchanged;
           earlier = λ j h. sym (changes-alike j) ∙ σ .earlier j h;
           amounts = σ .amounts ∙ rounds-alike k;
         }
+
+    pub searched-alike : (budget : ℕ) (r : Report) (y : List ℕ) → Searched n c s budget r y → Searched n e s budget r y
+    searched-alike budget r y p = (p .0 ∙ nine-alike budget, λ h. let q = p .1 h in (settles-alike (q .0), q .1))
 
     pub fits-alike : RoundsFit n e s → RoundsFit n c s
     fits-alike p k i h =

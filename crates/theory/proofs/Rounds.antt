@@ -9,11 +9,11 @@ use native.Mathlib.Omega.{arith}
 use native.Mathlib.Nat.{le-refl, le-trans, le-of-eq, le-antisymm, mul-le-mul-left, mul-le-mul-right, mul-comm, mul-left-comm, le-div-iff-mul-le, mul-div-le, mul-add}
 use borrow.Author.Tests.{not-false}
 use lib.ListN.{length}
-use Rattle.model.specs.Numbers.{one, sum, tabulate, cell, same}
+use Rattle.model.specs.Numbers.{one, sum, cell, same}
 use Rattle.model.specs.Rounds.{product, weighted, intermediate, round, rounds, changes, Settles, ExactBalance, impliedDemand}
 use Rattle.model.specs.Promises.{Equal}
 use Rattle.theory.proofs.Sums.{sum-mono, sum-cong, sum-add, sum-scale}
-use Rattle.theory.proofs.Lists.{length-tabulate, cell-tabulate, tabulate-cong, agreed, same-equal}
+use Rattle.theory.proofs.Lists.{length-tabulate, cell-tabulate, agreed, same-equal}
 
 module _ (n : ℕ) (c : ℕ → ℕ → ℕ) where
   -- ---- weighted sums

@@ -1,5 +1,6 @@
 -- What contracts cite beside the definitions of `model`.
 pub mod Bounds
 pub mod Rises
+pub mod Search
 pub mod Tables
 pub mod Files

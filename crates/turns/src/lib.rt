@@ -108,7 +108,14 @@ fn advance(n: usize, start: &[u64], sums: &[u64], out: &mut [u64], rises: &mut [
 // One round more along the rows of d, from `out` to `out`: every sector's start, and what industry takes of it at the amounts of the round
 // before. The weighted sums of those amounts are the sums of the round before it and what the rises since then add: rises are small, so that
 // their products are cheap where those of the amounts are not. Answers whether the round changed no sector.
-pub fn turn(n: usize, d: &[u64], start: &[u64], out: &mut [u64], rises: &mut [u64], sums: &mut [u64]) -> bool
+pub fn turn(
+    n: usize,
+    d: &[u64],
+    start: &[u64],
+    out: &mut [u64],
+    rises: &mut [u64],
+    sums: &mut [u64],
+) -> bool
     requires { ⌜ (length (now d) ≡ n * n) × (length (now start) ≡ n) × (length (now out) ≡ n) × (length (now rises) ≡ n) × (length (now sums) ≡ n) ⌝ }
     requires { ⌜ Narrow (now d) × Carried n (now d) (now rises) (now sums) (now out) ⌝ }
     requires { ⌜ ((i : ℕ) → i < n → cell (now start) i ≤ demandLimit) ⌝ }

@@ -1,5 +1,5 @@
 -- `settling::run_columns` meets its contract: the rows of the copy are alike to the columns of d, so their rounds are the same. Assumes nothing.
-use mathlib.Core.List.{List, [], _∷_, _++_}
+use mathlib.Core.List.{List, _++_}
 use mathlib.Core.Bool.{true}
 use mathlib.Core.Path.{_≡_, sym, ap, subst, subst⁻¹, _∙_}
 use Prim.Native.Nat.{ℕ, _*_, _≤_}
@@ -8,10 +8,10 @@ use borrow.Author.Needs.{needs}
 use lib.ListN.{length, replicate, take, drop}
 use lib.Seq.{length-take-le, take-at, length-front}
 use Rattle.model.specs.Numbers.{at, transposed}
-use Rattle.model.specs.Rounds.{settling, Settles}
-use Rattle.model.specs.Checks.{reportRounds, verdict, single, settles}
+use Rattle.model.specs.Checks.{reportRounds}
 use Rattle.theory.specs.Bounds.{Narrow, RoundsFit}
-use Rattle.theory.proofs.Alike.{nine-alike, settles-alike, fits-alike, transposed-narrow}
+use Rattle.theory.specs.Search.{Searched}
+use Rattle.theory.proofs.Alike.{searched-alike, fits-alike, transposed-narrow}
 use Rattle.theory.proofs.Promises.{rounds-fit}
 use Rattle.settling.proofs.run_columns.Statement.{statement}
 use Rattle.settling.proofs.run_columns.Tie as tie
@@ -72,18 +72,8 @@ returns c =
     let r = c .before .before .before .before .run-rows in
     let a = entry q .args in
     let n = a .n in
-    let s = a .start .now in
-    let b = a .budget in
-    let e = at n (rows q) in
-    let t = transposed (at n (a .d .now)) in
-    let alike = q .transpose .ensures in (
-      r .ensures .0
-          ∙ ap (λ (l : List ℕ). verdict (single 9 (settles n (at n l) s b) ∷ []) (settling n (at n l) s b)) (stored q)
-          ∙ nine-alike n e t alike s b,
-      λ h.
-          let p = r .ensures .1 h in
-          (settles-alike n e t alike s (subst (λ (l : List ℕ). Settles n (at n l) s (reportRounds (r .result) .rounds) (r .last .1 .1 .1 .1 .0)) (stored q) (p .0)), p .1),
-    )
+    searched-alike n (at n (rows q)) (transposed (at n (a .d .now))) (q .transpose .ensures) (a .start .now) (a .budget) _ _
+    (subst (λ (l : List ℕ). Searched n (at n l) (a .start .now) (a .budget) (reportRounds (r .result)) (r .last .1 .1 .1 .1 .0)) (stored q) (r .ensures))
 
 pub run-columns-spec : {M : Type 1} → statement M
 run-columns-spec =

@@ -1,13 +1,12 @@
 -- `turns::add_rises` meets its contract: the first i sums are raised, the others still as they were. Assumes nothing.
 use mathlib.Core.List.{List}
 use mathlib.Core.Path.{_≡_, _∙_, ap₂, subst⁻¹}
-use Prim.Native.Nat.{ℕ, _+_, _≤_, _<_, _-_}
+use Prim.Native.Nat.{ℕ, _+_, _≤_, _-_}
 use native.Mathlib.Nat.{le-refl}
 use native.Mathlib.Omega.{arith}
 use borrow.Author.Needs.{needs}
 use lib.ListN.{length, set, length-set}
 use Rattle.model.specs.Numbers.{cell}
-use Rattle.theory.specs.Bounds.{sumLimit}
 use Rattle.theory.specs.Rises.{raised}
 use Rattle.theory.proofs.Lists.{Over, over-none, over-set, over-two, tabulated}
 use Rattle.turns.proofs.add_rises.Statement.{statement}
@@ -60,7 +59,7 @@ loop-again c =
     let l = p .loop in
     let q = c .before .before .add-pair in
     let written =
-        q .ensures ∙ ap₂ (λ (x y : ℕ). set (set (l .sums) (l .i) x) (l .i + 1) y) (still p (l .i) (omega arith)) (still p (l .i + 1) (omega arith)) in (
+    q .ensures ∙ ap₂ (λ (x y : ℕ). set (set (l .sums) (l .i) x) (l .i + 1) y) (still p (l .i) (omega arith)) (still p (l .i + 1) (omega arith)) in (
       omega arith,
       q .kept .1 .1 .1 .1 .1 .0 ∙ l .inv .1,
       subst⁻¹ (λ (x : List ℕ). Over x (l .i + 2) (next p) (entry p .args .sums .now)) written

@@ -2,9 +2,7 @@
 use mathlib.Core.List.{List}
 use mathlib.Core.Path.{_≡_, ap, sym, subst⁻¹, _∙_}
 use Prim.Native.Nat.{ℕ, _≤_, _<_, _-_}
-use native.Mathlib.Omega.{arith}
 use borrow.Author.Needs.{needs}
-use lib.ListN.{length}
 use Rattle.model.specs.Numbers.{at, cell, same, tabulate}
 use Rattle.model.specs.Rounds.{round}
 use Rattle.model.specs.Checks.{demandLimit}
