@@ -29,12 +29,15 @@ pub fn coefficients(
     d: &mut [u64],
     f: &mut [u64],
 ) -> Answer
-    ensures answer { λ r. ⌜ report r ≡ coefficientsReport (tableOf n (now (x .entry)) (now («final_demand» .entry)) (now (exports .entry)) (now (imports .entry)) (now («value_added» .entry)) (now (production .entry))) (length (now (a .entry)) ∷ length (now (d .entry)) ∷ []) (length (now (v .entry)) ∷ length (now (m .entry)) ∷ length (now (f .entry)) ∷ []) ⌝ }
-    ensures inputs { λ r. ⌜ now (a .exit) ≡ output (report r) (length (now (a .entry))) (inputCoefficients (tableOf n (now (x .entry)) (now («final_demand» .entry)) (now (exports .entry)) (now (imports .entry)) (now («value_added» .entry)) (now (production .entry)))) ⌝ }
-    ensures values { λ r. ⌜ now (v .exit) ≡ output (report r) (length (now (v .entry))) (valueAddedCoefficients (tableOf n (now (x .entry)) (now («final_demand» .entry)) (now (exports .entry)) (now (imports .entry)) (now («value_added» .entry)) (now (production .entry)))) ⌝ }
-    ensures shares { λ r. ⌜ now (m .exit) ≡ output (report r) (length (now (m .entry))) (importCoefficients (tableOf n (now (x .entry)) (now («final_demand» .entry)) (now (exports .entry)) (now (imports .entry)) (now («value_added» .entry)) (now (production .entry)))) ⌝ }
-    ensures domestic { λ r. ⌜ now (d .exit) ≡ output (report r) (length (now (d .entry))) (domesticCoefficients (tableOf n (now (x .entry)) (now («final_demand» .entry)) (now (exports .entry)) (now (imports .entry)) (now («value_added» .entry)) (now (production .entry)))) ⌝ }
-    ensures demands { λ r. ⌜ now (f .exit) ≡ output (report r) (length (now (f .entry))) (domesticDemands (tableOf n (now (x .entry)) (now («final_demand» .entry)) (now (exports .entry)) (now (imports .entry)) (now («value_added» .entry)) (now (production .entry)))) ⌝ }
+    ensures { λ q. ⌜ (
+        let t = tableOf n (now (x .entry)) (now («final_demand» .entry)) (now (exports .entry)) (now (imports .entry)) (now («value_added» .entry)) (now (production .entry)) in
+        let r = report q in
+        (r ≡ coefficientsReport t (length (now (a .entry)) ∷ length (now (d .entry)) ∷ []) (length (now (v .entry)) ∷ length (now (m .entry)) ∷ length (now (f .entry)) ∷ []))
+        × (now (a .exit) ≡ output r (length (now (a .entry))) (inputCoefficients t))
+        × (now (v .exit) ≡ output r (length (now (v .entry))) (valueAddedCoefficients t))
+        × (now (m .exit) ≡ output r (length (now (m .entry))) (importCoefficients t))
+        × (now (d .exit) ≡ output r (length (now (d .entry))) (domesticCoefficients t))
+        × (now (f .exit) ≡ output r (length (now (f .entry))) (domesticDemands t))) ⌝ }
 {
     let checked = check_table(
         n,

@@ -7,7 +7,7 @@ use Rattle.capi.proofs.tawqeshim_coefficients.Tie as tie
 returns : tie.Need-returns
 returns c =
     let e = c .before .before .before .before .before .before .before .before .before .before .before .before .before .coefficients .ensures in
-    rw (sym (e .0)) (c .tell-answer .ensures, e .1 .0, e .1 .1 .0, e .1 .1 .1 .0, e .1 .1 .1 .1 .0, e .1 .1 .1 .1 .1)
+    rw (sym (e .0)) (c .tell-answer .ensures, e .1, e .2, e .3, e .4, e .5)
 
 pub tawqeshim-coefficients-spec : {M : Type 1} → statement M
 tawqeshim-coefficients-spec =

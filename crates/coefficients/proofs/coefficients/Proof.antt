@@ -76,7 +76,8 @@ unfolding coefficientsReport
 returns c =
     let k = c .before .before .before .before .before .before .before .before .before .before .before .before .before .before .before .before .before in
     let q = k .before .before in
-    (answered-stop (asked q) (q .check-table .ensures) (last q) 0 (k .checked .given .1), c .before .before .before .before .before .before .before .before .before .before .clear .ensures)
+    let z = c .before .before .before .before .before .before .before .before .before .before .clear .ensures in
+    (answered-stop (asked q) (q .check-table .ensures) (last q) 0 (k .checked .given .1), z .0, z .1 .0, z .1 .1 .0, z .1 .1 .1 .0, z .1 .1 .1 .1)
 
 fill-inputs-requires : tie.Need-fill-inputs-requires
 fill-inputs-requires c κs =
@@ -138,16 +139,11 @@ returns-2 c =
     let R = report (r .finish .result) in
     let d = domestic-from t (passed p .sizes .some) (inputs-are i) (imports-are i) in (
       e .0 ∙ ap (λ (l : List ℕ). verdict (columnSums n (at n l) ∷ []) 0) d ∙ answered-on (asked q) (q .check-table .ensures) (last q) 0 (p .enum-told .given .1),
-      (
-        e .1 .0 ∙ ap₂ (output R) (filled i .fill-inputs .kept .1 .1 .1 .0) (inputs-are i),
-        (
-          e .1 .1 .0 ∙ ap₂ (output R) (i .before .before .before .before .fill-shares .kept .1 .1 .1 .0) (i .before .before .before .before .fill-shares .ensures),
-          (
-            e .1 .1 .1 .0 ∙ ap₂ (output R) (i .fill-imports .kept .1 .1 .1 .1 .0) (imports-are i),
-            (e .1 .1 .1 .1 .0 ∙ ap (output R (length (start p .args .d .now))) d, e .1 .1 .1 .1 .1 ∙ ap (output R (length (start p .args .f .now))) (demand-from t (imports-are i))),
-          ),
-        ),
-      ),
+      e .1 .0 ∙ ap₂ (output R) (filled i .fill-inputs .kept .1 .1 .1 .0) (inputs-are i),
+      e .1 .1 .0 ∙ ap₂ (output R) (i .before .before .before .before .fill-shares .kept .1 .1 .1 .0) (i .before .before .before .before .fill-shares .ensures),
+      e .1 .1 .1 .0 ∙ ap₂ (output R) (i .fill-imports .kept .1 .1 .1 .1 .0) (imports-are i),
+      e .1 .1 .1 .1 .0 ∙ ap (output R (length (start p .args .d .now))) d,
+      e .1 .1 .1 .1 .1 ∙ ap (output R (length (start p .args .f .now))) (demand-from t (imports-are i)),
     )
 
 pub coefficients-spec : {M : Type 1} → statement M

@@ -42,14 +42,14 @@ goes-on k =
     let a = s .args in
     let t = table s in
     let e = ap report (k .enum-told .given .1) in
-    let w = q .coefficients .ensures .1 in
+    let w = q .coefficients .ensures in
     table-on t (l .1) (l .4) (l .2) (l .3) (l .5)
-    (sym e ∙ q .coefficients .ensures .0)
-    (w .0 ∙ ap (λ (r : Report). output r (length (a .a .now)) (inputCoefficients t)) e)
-    (w .1 .0 ∙ ap (λ (r : Report). output r (length (a .v .now)) (valueAddedCoefficients t)) e)
-    (w .1 .1 .0 ∙ ap (λ (r : Report). output r (length (a .m .now)) (importCoefficients t)) e)
-    (w .1 .1 .1 .0 ∙ ap (λ (r : Report). output r (length (a .d .now)) (domesticCoefficients t)) e)
-    (w .1 .1 .1 .1 ∙ ap (λ (r : Report). output r (length (a .f .now)) (domesticDemands t)) e)
+    (sym e ∙ w .0)
+    (w .1 ∙ ap (λ (r : Report). output r (length (a .a .now)) (inputCoefficients t)) e)
+    (w .2 ∙ ap (λ (r : Report). output r (length (a .v .now)) (valueAddedCoefficients t)) e)
+    (w .3 ∙ ap (λ (r : Report). output r (length (a .m .now)) (importCoefficients t)) e)
+    (w .4 ∙ ap (λ (r : Report). output r (length (a .d .now)) (domesticCoefficients t)) e)
+    (w .5 ∙ ap (λ (r : Report). output r (length (a .f .now)) (domesticDemands t)) e)
 
 put-refusal-requires : tie.Need-put-refusal-requires
 put-refusal-requires c κs =
