@@ -10,7 +10,8 @@ use lib.ListN.{length, take, drop, length-take, length-drop}
 use Rattle.model.specs.Numbers.{all}
 use Rattle.model.specs.File.{Reading, reading, fits, called, columnRead}
 use Rattle.theory.proofs.Lists.{and-true}
-use Rattle.table_file.specs.Reader.{Held, Delivered}
+use Rattle.walk.specs.Steps.{Held}
+use Rattle.table_file.specs.Reader.{Delivered}
 
 pub record Fit (x f e m v p r k : ℕ) : Type 0 where
   pub flows : x ≡ 1600

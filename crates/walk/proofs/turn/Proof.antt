@@ -1,11 +1,11 @@
--- `table_file::turn` meets its contract. Assumes nothing.
+-- `walk::turn` meets its contract. Assumes nothing.
 use mathlib.Core.Path.{_≡_, refl, subst}
 use borrow.Author.Needs.{needs}
-use Rattle.table_file.specs.declared.Step.{Step}
-use Rattle.table_file.specs.Reader.{Asked}
-use Rattle.table_file.proofs.turn.Lts as lts
-use Rattle.table_file.proofs.turn.Statement.{statement}
-use Rattle.table_file.proofs.turn.Tie as tie
+use Rattle.walk.specs.declared.Step.{Step}
+use Rattle.walk.specs.Steps.{Asked}
+use Rattle.walk.proofs.turn.Lts as lts
+use Rattle.walk.proofs.turn.Statement.{statement}
+use Rattle.walk.proofs.turn.Tie as tie
 
 asked : (c : tie.After-ask) (t : Step) → c .ask .result ≡ t → let a = c .before .before .before .before .before .args in Asked (a .file .now) (a .n) (a .at) (a .marks .now) t
 asked c t e = let a = c .before .before .before .before .before .args in subst (Asked (a .file .now) (a .n) (a .at) (a .marks .now)) e (c .ask .ensures)

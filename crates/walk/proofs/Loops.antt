@@ -11,10 +11,10 @@ use Rattle.model.specs.File.{Entry, entryAt, Reading, walk, answerOf}
 use Rattle.model.specs.declared.TableRead.the-variants.{Read, Refused}
 use Rattle.records.specs.Marks.{marked}
 use Rattle.records.proofs.MarkLaws.{marked-none}
-use Rattle.table_file.specs.declared.Step.the-variants.{Stop, End, Cell}
-use Rattle.table_file.specs.Reader.{Held, Kept, Turned, Accepts}
-use Rattle.table_file.proofs.WalkLaws.{one-more}
-use Rattle.table_file.proofs.CellLaws.{held-none, held-refused}
+use Rattle.walk.specs.declared.Step.the-variants.{Stop, End, Cell}
+use Rattle.walk.specs.Steps.{Held, Kept, Turned, Accepts}
+use Rattle.walk.proofs.WalkLaws.{one-more}
+use Rattle.walk.proofs.CellLaws.{held-none, held-refused}
 
 -- a cell by its line, its position and its amount
 pub as-entry : (e : Entry) (l p a : ℕ) → l ≡ e .line → p ≡ e .position → a ≡ e .amount → record { line = l; position = p; amount = a } ≡ e

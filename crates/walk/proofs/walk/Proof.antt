@@ -1,14 +1,14 @@
--- `table_file::walk` meets its contract: the loop stands where the walk stands, and the cells and the marks are those of the cells named so far. Assumes nothing.
+-- `walk::walk` meets its contract: the loop stands where the walk stands, and the cells and the marks are those of the cells named so far. Assumes nothing.
 use mathlib.Core.Path.{_≡_, sym, _∙_, subst}
 use Prim.Native.Nat.{_+_, _-_}
 use native.Mathlib.Omega.{arith}
 use borrow.Author.Needs.{needs}
 use lib.ListN.{length}
-use Rattle.table_file.specs.declared.Step.{Step}
-use Rattle.table_file.specs.Reader.{Turned}
-use Rattle.table_file.proofs.Loops.{Walking, starts, stopped, finished, goes-on}
-use Rattle.table_file.proofs.walk.Statement.{statement}
-use Rattle.table_file.proofs.walk.Tie as tie
+use Rattle.walk.specs.declared.Step.{Step}
+use Rattle.walk.specs.Steps.{Turned}
+use Rattle.walk.proofs.Loops.{Walking, starts, stopped, finished, goes-on}
+use Rattle.walk.proofs.walk.Statement.{statement}
+use Rattle.walk.proofs.walk.Tie as tie
 
 abbrev Inv-loop : tie.InvT-loop
 Inv-loop file n cells₀ marks₀ at₀ named₀ cells marks at named = Walking file n cells marks at named × (length cells₀ ≡ 1840) × (length marks₀ ≡ 46)

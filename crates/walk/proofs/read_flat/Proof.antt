@@ -1,11 +1,11 @@
--- `table_file::read_flat` meets its contract. Assumes nothing.
+-- `walk::read_flat` meets its contract. Assumes nothing.
 use mathlib.Core.Path.{ap, _∙_}
 use Prim.Native.Nat.{ℕ}
 use borrow.Author.Needs.{needs}
 use lib.ListN.{replicate}
 use Rattle.model.specs.File.{reading}
-use Rattle.table_file.proofs.read_flat.Statement.{statement}
-use Rattle.table_file.proofs.read_flat.Tie as tie
+use Rattle.walk.proofs.read_flat.Statement.{statement}
+use Rattle.walk.proofs.read_flat.Tie as tie
 
 walk-file-requires : tie.Need-walk-file-requires
 walk-file-requires c κs =
