@@ -2,8 +2,13 @@
 use mathlib.Core.List.{List}
 use mathlib.Core.Path.{_≡_}
 use Prim.Native.Nat.{ℕ}
-use lib.ListN.{length}
+use lib.ListN.{length, take, drop, replicate}
 use Rattle.model.specs.File.{Reading, flowsRead, columnRead}
+
+-- what a slice of a length holds after a part of the cells was put into it
+pub record Put (cells : List ℕ) (from count len : ℕ) (out : List ℕ) : Type 0 where
+  pub copied : len ≡ count → out ≡ take count (drop from cells)
+  pub cleared : (len ≡ count → ⊥) → out ≡ replicate len 0
 
 -- the lent slices before and after the call, by what was read
 pub record Delivered (o : Reading) (x₀ f₀ e₀ m₀ v₀ p₀ r₀ x f e m v p r : List ℕ) : Type 0 where
