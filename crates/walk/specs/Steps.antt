@@ -54,13 +54,6 @@ Asked s n at marks End = (fuel : ℕ) (es : List Entry) → Agrees es marks → 
 Asked s n at marks (Cell next) =
     ((fuel : ℕ) (es : List Entry) → Agrees es marks → walk (suc fuel) s n es at ≡ walk fuel s n (entryAt s at ∷ es) next) × Names s n at next
 
--- the same with the cells stored
-abbrev pub Turned : List ℕ → ℕ → ℕ → List ℕ → List ℕ → Step → List ℕ → List ℕ → Type 0
-Turned s n at cells marks (Stop q p) cells' marks' = Asked s n at marks (Stop q p)
-Turned s n at cells marks End cells' marks' = Asked s n at marks End × (cells' ≡ cells)
-Turned s n at cells marks (Cell next) cells' marks' =
-    Asked s n at marks (Cell next) × ((es : List Entry) → Kept n es cells marks → Kept n (entryAt s at ∷ es) cells' marks')
-
 -- an answer, and on acceptance the cells
 pub record Accepts (o : Reading) (n k : ℕ) (cells : List ℕ) : Type 0 where
   pub es : List Entry

@@ -17,7 +17,7 @@ ghost use lib.ListN.{length, replicate};
 ghost use Rattle.model.specs.File.{Entry, kindAt, entryAt, Reading, walk as walkFrom, reading, answerOf};
 ghost use Rattle.theory.specs.Files.{Within};
 ghost use Rattle.records.specs.Bodies.{Body, Sectors};
-ghost use Rattle.walk.specs.Steps.{Held, Kept, Begun, Naming, Asked, Turned, Ends, Opened};
+ghost use Rattle.walk.specs.Steps.{Held, Kept, Begun, Naming, Asked, Ends, Opened};
 
 // What the walk does at a record: it stops with a refusal, it ends, or it takes a named cell and goes on.
 pub enum Step {
@@ -115,22 +115,6 @@ fn keep(file: &[u8], at: usize, n: usize, cells: &mut [u64], marks: &mut [u64])
     store(cells, n, line, position, amount);
 }
 
-// One turn of the walk.
-fn turn(file: &[u8], at: usize, n: usize, cells: &mut [u64], marks: &mut [u64]) -> Step
-    requires { ⌜ (n ≤ 40) × (length (now cells) ≡ 1840) × (length (now marks) ≡ 46) ⌝ }
-    ensures { λ r. ⌜ Turned (now (file .entry)) n at (now (cells .entry)) (now (marks .entry)) r (now (cells .exit)) (now (marks .exit)) ⌝ }
-{
-    let step = ask(file, at, n, marks);
-    match step {
-        Step::Stop { number, place } => Step::Stop { number, place },
-        Step::End => Step::End,
-        Step::Cell { next } => {
-            keep(file, at, n, cells, marks);
-            Step::Cell { next }
-        }
-    }
-}
-
 // The records after the first.
 fn walk(file: &[u8], n: usize, cells: &mut [u64], marks: &mut [u64]) -> TableRead
     requires { ⌜ (n ≤ 40) × (2 ≤ length (now file)) × Kept n [] (now cells) (now marks) ⌝ }
@@ -139,11 +123,12 @@ fn walk(file: &[u8], n: usize, cells: &mut [u64], marks: &mut [u64]) -> TableRea
     let mut at: usize = 2;
     let mut named: usize = 0;
     loop {
-        let step = turn(file, at, n, cells, marks);
+        let step = ask(file, at, n, marks);
         match step {
             Step::Stop { number, place } => return TableRead::Refused { number, place },
             Step::End => return TableRead::Read { sectors: n, named },
             Step::Cell { next } => {
+                keep(file, at, n, cells, marks);
                 named += 1;
                 at = next;
             }
