@@ -14,7 +14,7 @@ use Rattle.theory.proofs.Lists.{and-true}
 use Rattle.walk.specs.Steps.{Held}
 use Rattle.table_file.specs.Reader.{Put}
 
-pub record Fit (x f e m v p r k : ℕ) : Type 0 where
+pub record Fit (x f e m v p r : ℕ) : Type 0 where
   pub flows : x ≡ 1600
   pub finalDemand : f ≡ 40
   pub exports : e ≡ 40
@@ -22,9 +22,8 @@ pub record Fit (x f e m v p r k : ℕ) : Type 0 where
   pub valueAdded : v ≡ 40
   pub production : p ≡ 40
   pub rises : r ≡ 40
-  pub words : k ≡ 46
 
-pub fit : (x f e m v p r k : ℕ) → fits x (f ∷ e ∷ m ∷ v ∷ p ∷ r ∷ []) k ≡ true → Fit x f e m v p r k
+pub fit : (x f e m v p r k : ℕ) → fits x (f ∷ e ∷ m ∷ v ∷ p ∷ r ∷ []) k ≡ true → Fit x f e m v p r
 fit x f e m v p r k q =
     let c : List ℕ = f ∷ e ∷ m ∷ v ∷ p ∷ r ∷ [] in
     let a = and-true (eqb 1600 x && all (eqb 40) c) (eqb 46 k) q in
@@ -43,7 +42,6 @@ fit x f e m v p r k q =
       valueAdded = sym (eqb-true 40 v (v' .0));
       production = sym (eqb-true 40 p (p' .0));
       rises = sym (eqb-true 40 r (r' .0));
-      words = sym (eqb-true 46 k (a .1));
     }
 
 module _ (x : ℕ) (columns : List ℕ) (k : ℕ) (s : List ℕ) where
@@ -59,10 +57,10 @@ pub fit-words : (x : ℕ) (columns : List ℕ) (k : ℕ) → fits x columns k �
 fit-words x columns k q = sym (eqb-true 46 k (and-true (eqb 1600 x && all (eqb 40) columns) (eqb 46 k) q .1))
 
 -- either the slices have the lengths that are asked for, or nothing is read
-pub fit-or-not : (x f e m v p r k : ℕ) (s : List ℕ) (o : Reading) → o ≡ called x (f ∷ e ∷ m ∷ v ∷ p ∷ r ∷ []) k s → Fit x f e m v p r k ⊎ (o ≡ Reading.refused 2 0)
+pub fit-or-not : (x f e m v p r k : ℕ) (s : List ℕ) (o : Reading) → o ≡ called x (f ∷ e ∷ m ∷ v ∷ p ∷ r ∷ []) k s → Fit x f e m v p r ⊎ (o ≡ Reading.refused 2 0)
 fit-or-not x f e m v p r k s o z = go (fits x (f ∷ e ∷ m ∷ v ∷ p ∷ r ∷ []) k) refl
   where
-    go : (b : Bool) → fits x (f ∷ e ∷ m ∷ v ∷ p ∷ r ∷ []) k ≡ b → Fit x f e m v p r k ⊎ (o ≡ Reading.refused 2 0)
+    go : (b : Bool) → fits x (f ∷ e ∷ m ∷ v ∷ p ∷ r ∷ []) k ≡ b → Fit x f e m v p r ⊎ (o ≡ Reading.refused 2 0)
     go true q = inl (fit x f e m v p r k q)
     go false q = inr (z ∙ sym (called-unfit x (f ∷ e ∷ m ∷ v ∷ p ∷ r ∷ []) k s q))
 

@@ -64,7 +64,7 @@ fn is_fit(x: usize, columns: &[usize], marks: usize) -> bool
     46 == marks
 }
 
-// Question 2, then the file into the cells. After a refusal they are 0; the marks are 0 in any case.
+// Question 2, then the file into cells of 0. After a refusal they are 0; the marks are 0 in any case.
 fn read_called(
     file: &[u8],
     x: usize,
@@ -72,13 +72,12 @@ fn read_called(
     cells: &mut [u64],
     marks: &mut [u64],
 ) -> TableRead
-    requires { ⌜ length (now cells) ≡ 1840 ⌝ }
+    requires { ⌜ now cells ≡ replicate 1840 0 ⌝ }
     ensures { λ r. ⌜ (r ≡ answerOf (called x (now (columns .entry)) (length (now (marks .entry))) (now (file .entry))))
         × Held (called x (now (columns .entry)) (length (now (marks .entry))) (now (file .entry))) (now (cells .exit))
         × (now (marks .exit) ≡ replicate (length (now (marks .entry))) 0) ⌝ }
 {
     if !is_fit(x, columns, marks.len()) {
-        fill_zero(cells);
         fill_zero(marks);
         return TableRead::Refused {
             number: 2,

@@ -203,12 +203,11 @@ fn settle(answer: TableRead, cells: &mut [u64]) -> TableRead
     }
 }
 
-// The whole file, into cells and marks that hold anything.
+// The whole file, into cells of 0 and marks that hold anything.
 pub fn read_flat(file: &[u8], cells: &mut [u64], marks: &mut [u64]) -> TableRead
-    requires { ⌜ (length (now cells) ≡ 1840) × (length (now marks) ≡ 46) ⌝ }
+    requires { ⌜ (now cells ≡ replicate 1840 0) × (length (now marks) ≡ 46) ⌝ }
     ensures { λ r. ⌜ (r ≡ answerOf (reading (now (file .entry)))) × Held (reading (now (file .entry))) (now (cells .exit)) × (now (marks .exit) ≡ replicate 46 0) ⌝ }
 {
-    fill_zero(cells);
     fill_zero(marks);
     let answer = walk_file(file, cells, marks);
     fill_zero(marks);

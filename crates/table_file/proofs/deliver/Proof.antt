@@ -1,14 +1,8 @@
 -- `table_file::deliver` meets its contract: each slice takes its part. Assumes nothing.
-use mathlib.Core.List.{List}
-use mathlib.Core.Logic.{_⊎_, inl, inr}
-use mathlib.Core.Path.{_≡_, sym, _∙_}
-use Prim.Native.Nat.{ℕ}
 use native.Mathlib.Omega.{arith}
 use borrow.Author.Needs.{needs}
 use lib.Dec.{lit≤, lit<}
-use lib.ListN.{length}
-use Rattle.model.specs.File.{Reading}
-use Rattle.table_file.proofs.Delivery.{Fit, fit-or-not, either, put-flows, put-column}
+use Rattle.table_file.proofs.Delivery.{fit-or-not, either, put-flows, put-column}
 use Rattle.table_file.proofs.deliver.Statement.{statement}
 use Rattle.table_file.proofs.deliver.Tie as tie
 
@@ -43,10 +37,8 @@ returns c =
     let c3 = before4 c4 in
     let c2 = before3 c3 in
     let c1 = before2 c2 in
-    let a = start c1 .args in
     λ marks s o e h.
-    let d : Fit (length (a .x .now)) (length (a .final-demand .now)) (length (a .exports .now)) (length (a .imports .now)) (length (a .value-added .now)) (length (a .production .now)) (length (a .rises .now)) marks ⊎ (o ≡ Reading.refused 2 0)
-    = fit-or-not _ _ _ _ _ _ _ _ s o e in
+    let d = fit-or-not _ _ _ _ _ _ _ _ s o e in
     record {
       flows = put-flows o _ h _ _ (either (λ f. f .flows) d) (c1 .put-part .ensures);
       finalDemand = put-column o _ h 40 (lit≤ tt) (lit< tt) _ _ (either (λ f. f .finalDemand) d) (c2 .put-part2 .ensures);

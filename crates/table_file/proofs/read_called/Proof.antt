@@ -1,11 +1,11 @@
 -- `table_file::read_called` meets its contract. Assumes nothing.
 use mathlib.Core.Bool.{true}
-use mathlib.Core.Path.{_≡_, refl, sym, ap, _∙_, subst}
+use mathlib.Core.Path.{_≡_, sym, ap, _∙_, subst}
 use Prim.Native.Nat.{ℕ}
 use borrow.Author.Needs.{needs}
 use borrow.Author.Tests.{not-true, not-false}
 use lib.ListN.{length, replicate}
-use Rattle.model.specs.File.{Reading, reading, fits, called, answerOf}
+use Rattle.model.specs.File.{Reading, fits, answerOf}
 use Rattle.walk.specs.Steps.{Held}
 use Rattle.walk.proofs.CellLaws.{held-refused}
 use Rattle.table_file.proofs.Delivery.{fit-words, called-fit, called-unfit}
@@ -14,13 +14,11 @@ use Rattle.table_file.proofs.read_called.Tie as tie
 
 returns : tie.Need-returns
 returns c =
-    let p = c .before .before .before .before .before .before .before .before in
+    let p = c .before .before .before .before in
     let s = p .before .before .before .before .before .before in
     let a = s .args in
     let e = called-unfit (a .x) (a .columns .now) (length (a .marks .now)) (a .file .now) (sym (p .before .is-fit .ensures) ∙ not-true _ (p .if1 .taken)) in
-    let l = c .before .before .before .before .before .before .fill-zero in
-    let z = l .ensures ∙ ap (λ (k : ℕ). replicate k 0) (s .pre) in
-    (ap answerOf e, subst (λ (o : Reading). Held o (l .last .0)) e (held-refused (l .last .0) z 2 0), c .before .before .fill-zero2 .ensures)
+    (ap answerOf e, subst (λ (o : Reading). Held o (a .cells .now)) e (held-refused (a .cells .now) (s .pre) 2 0), c .before .before .fill-zero .ensures)
 
 -- the slices fit
 abbrev start : tie.Else1 → tie.Start
@@ -48,5 +46,5 @@ pub read-called-spec : {M : Type 1} → statement M
 read-called-spec =
     tie.close
     (tie.spec
-    (λ c κs. search needs) (λ c κs. search needs) (λ c κs. search needs) (λ c. search needs) (λ c. search needs) returns
+    (λ c κs. search needs) (λ c κs. search needs) (λ c. search needs) returns
     read-flat-requires (λ c. search needs) (λ c. search needs) returns-2)

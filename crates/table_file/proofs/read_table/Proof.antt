@@ -1,7 +1,6 @@
 -- `table_file::read_table` meets its contract. Assumes nothing.
 use mathlib.Core.Path.{refl}
 use borrow.Author.Needs.{needs}
-use lib.ListN.{length}
 use Rattle.table_file.proofs.read_table.Statement.{statement}
 use Rattle.table_file.proofs.read_table.Tie as tie
 

@@ -1,6 +1,6 @@
 -- `walk::walk` meets its contract: the loop stands where the walk stands, and the cells and the marks are those of the cells named so far. Assumes nothing.
 use mathlib.Core.Path.{_≡_, sym, _∙_, subst}
-use Prim.Native.Nat.{_+_, _-_}
+use Prim.Native.Nat.{_-_}
 use native.Mathlib.Omega.{arith}
 use borrow.Author.Needs.{needs}
 use lib.ListN.{length}
