@@ -1,18 +1,20 @@
 -- Question 2, and the parts of the reader's cells in the lent slices. Assumes nothing.
-use mathlib.Core.Bool.{true, false, _&&_}
+use mathlib.Core.Bool.{Bool, true, false, _&&_}
 use mathlib.Core.List.{List, [], _∷_}
-use mathlib.Core.Path.{_≡_, refl, sym, ap, _∙_, subst}
-use Prim.Native.Nat.{ℕ, _+_, _*_, _≤_, _<_}
-use native.Mathlib.Omega.{arith}
+use mathlib.Core.Logic.{_⊎_, inl, inr}
+use mathlib.Core.Path.{_≡_, refl, sym, ap, _∙_}
+use Prim.Native.Nat.{ℕ, _*_, _≤_, _<_}
+use native.Mathlib.Decide.{ℕ-discrete}
 use borrow.Author.Tests.{eqb-true}
 use lib.Dec.{eqb}
-use lib.ListN.{length, take, drop, length-take, length-drop}
+use lib.ListN.{take, drop, replicate}
 use Rattle.model.specs.Numbers.{all}
-use Rattle.model.specs.File.{Reading, reading, fits, called, columnRead}
+use Rattle.model.specs.File.{Reading, reading, fits, called, flowsRead, columnRead}
 use Rattle.theory.proofs.Lists.{and-true}
-use Rattle.table_file.specs.Reader.{Held, Delivered}
+use Rattle.walk.specs.Steps.{Held}
+use Rattle.table_file.specs.Reader.{Put}
 
-pub record Fit (x f e m v p r k : ℕ) : Type 0 where
+pub record Fit (x f e m v p r : ℕ) : Type 0 where
   pub flows : x ≡ 1600
   pub finalDemand : f ≡ 40
   pub exports : e ≡ 40
@@ -20,9 +22,8 @@ pub record Fit (x f e m v p r k : ℕ) : Type 0 where
   pub valueAdded : v ≡ 40
   pub production : p ≡ 40
   pub rises : r ≡ 40
-  pub words : k ≡ 46
 
-pub fit : (x f e m v p r k : ℕ) → fits x (f ∷ e ∷ m ∷ v ∷ p ∷ r ∷ []) k ≡ true → Fit x f e m v p r k
+pub fit : (x f e m v p r k : ℕ) → fits x (f ∷ e ∷ m ∷ v ∷ p ∷ r ∷ []) k ≡ true → Fit x f e m v p r
 fit x f e m v p r k q =
     let c : List ℕ = f ∷ e ∷ m ∷ v ∷ p ∷ r ∷ [] in
     let a = and-true (eqb 1600 x && all (eqb 40) c) (eqb 46 k) q in
@@ -41,7 +42,6 @@ fit x f e m v p r k q =
       valueAdded = sym (eqb-true 40 v (v' .0));
       production = sym (eqb-true 40 p (p' .0));
       rises = sym (eqb-true 40 r (r' .0));
-      words = sym (eqb-true 46 k (a .1));
     }
 
 module _ (x : ℕ) (columns : List ℕ) (k : ℕ) (s : List ℕ) where
@@ -53,15 +53,34 @@ module _ (x : ℕ) (columns : List ℕ) (k : ℕ) (s : List ℕ) where
   unfolding called
   called-unfit e = rw e refl
 
-pub delivered-as : {o o' : Reading} {x₀ f₀ e₀ m₀ v₀ p₀ r₀ x f e m v p r : List ℕ} → o ≡ o'
-    → Delivered o x₀ f₀ e₀ m₀ v₀ p₀ r₀ x f e m v p r → Delivered o' x₀ f₀ e₀ m₀ v₀ p₀ r₀ x f e m v p r
-delivered-as {x₀ = x₀} {f₀ = f₀} {e₀ = e₀} {m₀ = m₀} {v₀ = v₀} {p₀ = p₀} {r₀ = r₀} {x = x} {f = f} {e = e} {m = m} {v = v} {p = p} {r = r} q d =
-    subst (λ (o : Reading). Delivered o x₀ f₀ e₀ m₀ v₀ p₀ r₀ x f e m v p r) q d
+pub fit-words : (x : ℕ) (columns : List ℕ) (k : ℕ) → fits x columns k ≡ true → k ≡ 46
+fit-words x columns k q = sym (eqb-true 46 k (and-true (eqb 1600 x && all (eqb 40) columns) (eqb 46 k) q .1))
 
--- a part is as long as it says
-pub part-long : (a b : ℕ) (l : List ℕ) → a + b ≤ length l → length (take b (drop a l)) ≡ b
-part-long a b l h = length-take b (drop a l) ∙ (let z = length-drop a l in omega arith)
+-- either the slices have the lengths that are asked for, or nothing is read
+pub fit-or-not : (x f e m v p r k : ℕ) (s : List ℕ) (o : Reading) → o ≡ called x (f ∷ e ∷ m ∷ v ∷ p ∷ r ∷ []) k s → Fit x f e m v p r ⊎ (o ≡ Reading.refused 2 0)
+fit-or-not x f e m v p r k s o z = go (fits x (f ∷ e ∷ m ∷ v ∷ p ∷ r ∷ []) k) refl
+  where
+    go : (b : Bool) → fits x (f ∷ e ∷ m ∷ v ∷ p ∷ r ∷ []) k ≡ b → Fit x f e m v p r ⊎ (o ≡ Reading.refused 2 0)
+    go true q = inl (fit x f e m v p r k q)
+    go false q = inr (z ∙ sym (called-unfit x (f ∷ e ∷ m ∷ v ∷ p ∷ r ∷ []) k s q))
 
--- a column's part
-pub column-read : (o : Reading) (cells : List ℕ) → Held o cells → (c : ℕ) → 40 ≤ c → c < 46 → (len : ℕ) → len ≡ 40 → take 40 (drop (c * 40) cells) ≡ columnRead c len o
-column-read o cells h c lo hi len q = h .columns c lo hi ∙ ap (λ (k : ℕ). columnRead c k o) (sym q)
+pub either : {A B C : Type 0} → (A → B) → A ⊎ C → B ⊎ C
+either f (inl a) = inl (f a)
+either f (inr c) = inr c
+
+-- a part as long as its slice, or nothing read: the slice holds what it should
+module _ (o : Reading) (cells : List ℕ) (h : Held o cells) where
+  put : (g : ℕ → Reading → List ℕ) → ((len q p : ℕ) → g len (Reading.refused q p) ≡ replicate len 0) → (from count : ℕ) → take count (drop from cells) ≡ g count o
+      → (len : ℕ) (out : List ℕ) → (len ≡ count) ⊎ (o ≡ Reading.refused 2 0) → Put cells from count len out → out ≡ g len o
+  put g z from count w len out d t = go (ℕ-discrete len count) d
+    where
+      go : Dec (len ≡ count) → (len ≡ count) ⊎ (o ≡ Reading.refused 2 0) → out ≡ g len o
+      go (yes q) _ = t .copied q ∙ w ∙ ap (λ (k : ℕ). g k o) (sym q)
+      go (no q) (inl e) = absurd (q e)
+      go (no q) (inr e) = t .cleared q ∙ sym (ap (g len) e ∙ z len 2 0)
+
+  pub put-flows : (len : ℕ) (out : List ℕ) → (len ≡ 1600) ⊎ (o ≡ Reading.refused 2 0) → Put cells 0 1600 len out → out ≡ flowsRead len o
+  put-flows = put flowsRead (λ len q p. refl) 0 1600 (h .flows)
+
+  pub put-column : (c : ℕ) → 40 ≤ c → c < 46 → (len : ℕ) (out : List ℕ) → (len ≡ 40) ⊎ (o ≡ Reading.refused 2 0) → Put cells (c * 40) 40 len out → out ≡ columnRead c len o
+  put-column c lo hi = put (columnRead c) (λ len q p. refl) (c * 40) 40 (h .columns c lo hi)

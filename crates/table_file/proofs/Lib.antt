@@ -1,5 +1,1 @@
-pub mod WalkLaws
-pub mod NameLaws
-pub mod CellLaws
-pub mod Loops
 pub mod Delivery

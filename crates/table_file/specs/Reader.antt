@@ -1,81 +1,14 @@
--- What the reader's functions owe each other. Its cells lie in one list of 1,840: the 1,600 of x, then 40 for each of six columns, so that line c of
--- a column starts at c × 40.
-use mathlib.Core.Bool.{true}
-use mathlib.Core.List.{List, [], _∷_}
+-- What the reader leaves in the lent slices.
+use mathlib.Core.List.{List}
 use mathlib.Core.Path.{_≡_}
-use Prim.Native.Nat.{ℕ, suc, _*_, _≤_, _<_}
-use lib.ListN.{length, take, drop}
-use Rattle.model.specs.File.{Entry, kindAt, wholeAt, entryAt, named, Reading, walk, reading, flowsRead, columnRead}
-use Rattle.model.specs.declared.TableRead.{TableRead}
-use Rattle.model.specs.declared.TableRead.the-variants.{Read, Refused}
-use Rattle.theory.specs.Files.{Within}
-use Rattle.records.specs.Bodies.{Body, Sectors}
-use Rattle.records.specs.Marks.{marked}
-use Rattle.table_file.specs.declared.Step.{Step}
-use Rattle.table_file.specs.declared.Step.the-variants.{Stop, End, Cell}
+use Prim.Native.Nat.{ℕ}
+use lib.ListN.{length, take, drop, replicate}
+use Rattle.model.specs.File.{Reading, flowsRead, columnRead}
 
--- the list holds the cells of a reading
-pub record Held (o : Reading) (cells : List ℕ) : Type 0 where
-  pub flows : take 1600 cells ≡ flowsRead 1600 o
-  pub columns : (c : ℕ) → 40 ≤ c → c < 46 → take 40 (drop (c * 40) cells) ≡ columnRead c 40 o
-  pub long : length cells ≡ 1840
-
--- the marks are those of the named cells
-pub record Agrees (es : List Entry) (marks : List ℕ) : Type 0 where
-  pub same : (e : Entry) → marked marks (e .line) (e .position) ≡ named es e
-  pub words : length marks ≡ 46
-
-pub record Kept (n : ℕ) (es : List Entry) (cells marks : List ℕ) : Type 0 where
-  pub held : Held (Reading.table n es) cells
-  pub agrees : Agrees es marks
-
--- a whole record stands at an offset
-pub record Begun (s : List ℕ) (at : ℕ) : Type 0 where
-  pub inside : at < length s
-  pub whole : wholeAt s at ≡ true
-
--- and its kind is neither the first record's nor the end's
-pub record Naming (s : List ℕ) (at : ℕ) : Type 0 where
-  pub not-first : kindAt s at ≡ 1 → ⊥
-  pub not-end : kindAt s at ≡ 8 → ⊥
-
--- a record that names a cell, and the offset after it
-pub record Names (s : List ℕ) (n at next : ℕ) : Type 0 where
-  pub body : Body s at
-  pub sectors : Sectors s at
-  pub within : Within n (entryAt s at)
-  pub onward : at < next
-  pub inside : next ≤ length s
-
--- the step that the walk takes at an offset
-abbrev pub Asked : List ℕ → ℕ → ℕ → List ℕ → Step → Type 0
-Asked s n at marks (Stop q p) = (fuel : ℕ) (es : List Entry) → Agrees es marks → walk (suc fuel) s n es at ≡ Reading.refused q p
-Asked s n at marks End = (fuel : ℕ) (es : List Entry) → Agrees es marks → walk (suc fuel) s n es at ≡ Reading.table n es
-Asked s n at marks (Cell next) =
-    ((fuel : ℕ) (es : List Entry) → Agrees es marks → walk (suc fuel) s n es at ≡ walk fuel s n (entryAt s at ∷ es) next) × Names s n at next
-
--- the same with the cells stored
-abbrev pub Turned : List ℕ → ℕ → ℕ → List ℕ → List ℕ → Step → List ℕ → List ℕ → Type 0
-Turned s n at cells marks (Stop q p) cells' marks' = Asked s n at marks (Stop q p)
-Turned s n at cells marks End cells' marks' = Asked s n at marks End × (cells' ≡ cells)
-Turned s n at cells marks (Cell next) cells' marks' =
-    Asked s n at marks (Cell next) × ((es : List Entry) → Kept n es cells marks → Kept n (entryAt s at ∷ es) cells' marks')
-
--- an answer, and on acceptance the cells
-pub record Accepts (o : Reading) (n k : ℕ) (cells : List ℕ) : Type 0 where
-  pub es : List Entry
-  pub same : o ≡ Reading.table n es
-  pub counted : k ≡ length es
-  pub held : Held (Reading.table n es) cells
-
-abbrev pub Ends : Reading → TableRead → List ℕ → Type 0
-Ends o (Refused q p) cells = o ≡ Reading.refused q p
-Ends o (Read n k) cells = Accepts o n k cells
-
--- the first record
-abbrev pub Opened : List ℕ → TableRead → Type 0
-Opened s (Refused q p) = reading s ≡ Reading.refused q p
-Opened s (Read n k) = (reading s ≡ walk (length s) s n [] 2) × (n ≤ 40) × (2 ≤ length s)
+-- what a slice of a length holds after a part of the cells was put into it
+pub record Put (cells : List ℕ) (from count len : ℕ) (out : List ℕ) : Type 0 where
+  pub copied : len ≡ count → out ≡ take count (drop from cells)
+  pub cleared : (len ≡ count → ⊥) → out ≡ replicate len 0
 
 -- the lent slices before and after the call, by what was read
 pub record Delivered (o : Reading) (x₀ f₀ e₀ m₀ v₀ p₀ r₀ x f e m v p r : List ℕ) : Type 0 where

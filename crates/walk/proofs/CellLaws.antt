@@ -12,7 +12,7 @@ use lib.ListN.{length, set, take, drop, replicate, length-set, length-replicate}
 use lib.Seq.{take-set-lt, take-set-le, drop-set-lt, drop-set-add}
 use Rattle.model.specs.File.{Entry, Reading, flowsOf, columnOf}
 use Rattle.theory.specs.Files.{Within}
-use Rattle.table_file.specs.Reader.{Held}
+use Rattle.walk.specs.Steps.{Held}
 
 -- a row starts at most 1,560 cells in
 pub row-start : (n line : ℕ) → n ≤ 40 → line < n → line * n ≤ 1560

@@ -1,4 +1,4 @@
--- `table_file::cell_at` meets its contract. Assumes nothing.
+-- `walk::cell_at` meets its contract. Assumes nothing.
 use mathlib.Core.Bool.{true}
 use mathlib.Core.List.{List, _∷_}
 use mathlib.Core.Path.{_≡_, sym, ap, ap₂, _∙_}
@@ -9,11 +9,11 @@ use borrow.Author.Tests.{not-true, not-false}
 use Rattle.model.specs.File.{Entry, insideAt, entryAt, named, walk}
 use Rattle.records.specs.Marks.{marked}
 use Rattle.theory.specs.Files.{Within}
-use Rattle.table_file.specs.Reader.{Agrees, Names}
-use Rattle.table_file.proofs.WalkLaws.{outside, twice, fresh}
-use Rattle.table_file.proofs.NameLaws.{bodied, sectors-of, within-of, names-of}
-use Rattle.table_file.proofs.cell_at.Statement.{statement}
-use Rattle.table_file.proofs.cell_at.Tie as tie
+use Rattle.walk.specs.Steps.{Agrees, Names}
+use Rattle.walk.proofs.WalkLaws.{outside, twice, fresh}
+use Rattle.walk.proofs.NameLaws.{bodied, sectors-of, within-of, names-of}
+use Rattle.walk.proofs.cell_at.Statement.{statement}
+use Rattle.walk.proofs.cell_at.Tie as tie
 
 -- past question 13
 abbrev entry : tie.Else1 → tie.Start

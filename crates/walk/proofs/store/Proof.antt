@@ -1,10 +1,10 @@
--- `table_file::store` meets its contract. Assumes nothing.
+-- `walk::store` meets its contract. Assumes nothing.
 use native.Mathlib.Omega.{arith}
 use borrow.Author.Needs.{needs}
-use Rattle.table_file.proofs.CellLaws.{row-start, store-flow, store-column}
+use Rattle.walk.proofs.CellLaws.{row-start, store-flow, store-column}
 use Prim.Native.Nat.{_+_, _*_, _<_}
-use Rattle.table_file.proofs.store.Statement.{statement}
-use Rattle.table_file.proofs.store.Tie as tie
+use Rattle.walk.proofs.store.Statement.{statement}
+use Rattle.walk.proofs.store.Tie as tie
 
 -- a cell of x lies in its 1,600
 low : (c : tie.Then1) → let a = c .before .args in a .line * a .n + a .position < 1600

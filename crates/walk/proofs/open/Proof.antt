@@ -1,4 +1,4 @@
--- `table_file::open` meets its contract. Assumes nothing.
+-- `walk::open` meets its contract. Assumes nothing.
 use mathlib.Core.Path.{_≡_, sym, ap, _∙_}
 use Prim.Native.Nat.{_≤_}
 use native.Mathlib.Omega.{arith}
@@ -9,10 +9,10 @@ use Prim.Native.Nat.{ℕ}
 use mathlib.Core.Bool.{true}
 use mathlib.Core.List.{[]}
 use Rattle.model.specs.File.{wholeAt, walk}
-use Rattle.table_file.proofs.WalkLaws.{empty, first-broken, first-other, too-few, too-many, opens}
-use Rattle.table_file.proofs.NameLaws.{first-long}
-use Rattle.table_file.proofs.open.Statement.{statement}
-use Rattle.table_file.proofs.open.Tie as tie
+use Rattle.walk.proofs.WalkLaws.{empty, first-broken, first-other, too-few, too-many, opens}
+use Rattle.walk.proofs.NameLaws.{first-long}
+use Rattle.walk.proofs.open.Statement.{statement}
+use Rattle.walk.proofs.open.Tie as tie
 
 -- past question 11, and past the kind
 abbrev entry : tie.Else2 → tie.Start

@@ -1,11 +1,11 @@
--- `table_file::ask` meets its contract. Assumes nothing.
+-- `walk::ask` meets its contract. Assumes nothing.
 use mathlib.Core.Path.{sym, _∙_}
 use borrow.Author.Needs.{needs}
 use borrow.Author.Tests.{not-true, not-false}
-use Rattle.table_file.specs.Reader.{Begun}
-use Rattle.table_file.proofs.WalkLaws.{past, broken, second-first}
-use Rattle.table_file.proofs.ask.Statement.{statement}
-use Rattle.table_file.proofs.ask.Tie as tie
+use Rattle.walk.specs.Steps.{Begun}
+use Rattle.walk.proofs.WalkLaws.{past, broken, second-first}
+use Rattle.walk.proofs.ask.Statement.{statement}
+use Rattle.walk.proofs.ask.Tie as tie
 
 -- past question 11
 abbrev entry : tie.Else2 → tie.Start

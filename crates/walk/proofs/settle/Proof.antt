@@ -1,13 +1,13 @@
--- `table_file::settle` meets its contract. Assumes nothing.
+-- `walk::settle` meets its contract. Assumes nothing.
 use mathlib.Core.Path.{ap, _∙_, subst}
 use Prim.Native.Nat.{ℕ}
 use borrow.Author.Needs.{needs}
 use lib.ListN.{replicate}
 use Rattle.model.specs.declared.TableRead.{TableRead}
-use Rattle.table_file.specs.Reader.{Ends}
-use Rattle.table_file.proofs.Loops.{settled-refused, settled-read}
-use Rattle.table_file.proofs.settle.Statement.{statement}
-use Rattle.table_file.proofs.settle.Tie as tie
+use Rattle.walk.specs.Steps.{Ends}
+use Rattle.walk.proofs.Loops.{settled-refused, settled-read}
+use Rattle.walk.proofs.settle.Statement.{statement}
+use Rattle.walk.proofs.settle.Tie as tie
 
 returns : tie.Need-returns
 returns c =

@@ -8,7 +8,7 @@ use borrow.Author.Tests.{lt-leb, le-leb, eq-eqb, ne-eqb}
 use lib.ListN.{length}
 use Rattle.model.specs.Numbers.{cell}
 use Rattle.model.specs.File.{Entry, kindAt, nextAt, wholeAt, insideAt, entryAt, named, Reading, walk, reading}
-use Rattle.table_file.specs.Reader.{Begun, Naming}
+use Rattle.walk.specs.Steps.{Begun, Naming}
 
 module _ (s : List ℕ) (n at fuel : ℕ) (es : List Entry) where
   abbrev here : Reading

@@ -15,7 +15,7 @@ use Rattle.theory.proofs.Lists.{and-true}
 use Rattle.records.specs.Bodies.{Body, Sectors}
 use Rattle.records.proofs.RecordLaws.{sector, inside-by, inside-flow, entry-flow, entry-column}
 use Rattle.theory.specs.Files.{Within}
-use Rattle.table_file.specs.Reader.{Begun, Naming, Names}
+use Rattle.walk.specs.Steps.{Begun, Naming, Names}
 
 -- what is known of a kind that names a cell of a column
 pub record Column (kind : ℕ) : Type 0 where

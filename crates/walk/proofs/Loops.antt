@@ -11,10 +11,10 @@ use Rattle.model.specs.File.{Entry, entryAt, Reading, walk, answerOf}
 use Rattle.model.specs.declared.TableRead.the-variants.{Read, Refused}
 use Rattle.records.specs.Marks.{marked}
 use Rattle.records.proofs.MarkLaws.{marked-none}
-use Rattle.table_file.specs.declared.Step.the-variants.{Stop, End, Cell}
-use Rattle.table_file.specs.Reader.{Held, Kept, Turned, Accepts}
-use Rattle.table_file.proofs.WalkLaws.{one-more}
-use Rattle.table_file.proofs.CellLaws.{held-none, held-refused}
+use Rattle.walk.specs.declared.Step.the-variants.{Stop, End, Cell}
+use Rattle.walk.specs.Steps.{Held, Kept, Asked, Accepts}
+use Rattle.walk.proofs.WalkLaws.{one-more}
+use Rattle.walk.proofs.CellLaws.{held-none, held-refused}
 
 -- a cell by its line, its position and its amount
 pub as-entry : (e : Entry) (l p a : ℕ) → l ≡ e .line → p ≡ e .position → a ≡ e .amount → record { line = l; position = p; amount = a } ≡ e
@@ -67,7 +67,7 @@ starts s n cells marks h k = record {
   few = lit≤ tt;
 }
 
-module _ (s : List ℕ) (n : ℕ) (cells marks : List ℕ) (at count : ℕ) (w : Walking s n cells marks at count) (cells' marks' : List ℕ) where
+module _ (s : List ℕ) (n : ℕ) (cells marks : List ℕ) (at count : ℕ) (w : Walking s n cells marks at count) where
   -- the walk stands before the step that the code took
   abbrev next-fuel : ℕ
   next-fuel = pred (w .fuel)
@@ -75,29 +75,31 @@ module _ (s : List ℕ) (n : ℕ) (cells marks : List ℕ) (at count : ℕ) (w :
   before : walk (length s) s n [] 2 ≡ walk (suc next-fuel) s n (w .es) at
   before = w .same ∙ one-more (w .fuel) s n at (w .es) (w .enough)
 
-  pub stopped : (q p : ℕ) → Turned s n at cells marks (Stop q p) cells' marks' → walk (length s) s n [] 2 ≡ Reading.refused q p
+  pub stopped : (q p : ℕ) → Asked s n at marks (Stop q p) → walk (length s) s n [] 2 ≡ Reading.refused q p
   stopped q p t = before ∙ t next-fuel (w .es) (w .kept .agrees)
 
-  pub finished : Turned s n at cells marks End cells' marks' → Accepts (walk (length s) s n [] 2) n count cells'
+  pub finished : Asked s n at marks End → Accepts (walk (length s) s n [] 2) n count cells
   finished t = record {
     es = w .es;
-    same = before ∙ t .0 next-fuel (w .es) (w .kept .agrees);
+    same = before ∙ t next-fuel (w .es) (w .kept .agrees);
     counted = w .counted;
-    held = rw (t .1) (w .kept .held);
+    held = w .kept .held;
   }
 
-  pub goes-on : (next : ℕ) → Turned s n at cells marks (Cell next) cells' marks' → Walking s n cells' marks' next (count + 1)
-  goes-on next t =
-      let o = t .0 .1 .onward in
+  pub goes-on :
+      (next : ℕ) (cells' marks' : List ℕ) → Asked s n at marks (Cell next)
+      → ((es : List Entry) → Kept n es cells marks → Kept n (entryAt s at ∷ es) cells' marks') → Walking s n cells' marks' next (count + 1)
+  goes-on next cells' marks' t k =
+      let o = t .1 .onward in
       let z = w .enough in
       let f = w .few in
       record {
         es = entryAt s at ∷ w .es;
         fuel = next-fuel;
-        same = before ∙ t .0 .0 next-fuel (w .es) (w .kept .agrees);
+        same = before ∙ t .0 next-fuel (w .es) (w .kept .agrees);
         enough = (let d : length s ≤ next + pred (w .fuel) = omega arith in d);
-        inside = t .0 .1 .inside;
-        kept = t .1 (w .es) (w .kept);
+        inside = t .1 .inside;
+        kept = k (w .es) (w .kept);
         counted = add-one count ∙ ap suc (w .counted);
         few = omega arith;
       }

@@ -1,12 +1,12 @@
--- `table_file::walk_file` meets its contract. Assumes nothing.
+-- `walk::walk_file` meets its contract. Assumes nothing.
 use mathlib.Core.Path.{_≡_, sym, subst}
 use borrow.Author.Needs.{needs}
 use Rattle.model.specs.File.{Reading}
 use Rattle.model.specs.declared.TableRead.{TableRead}
-use Rattle.table_file.specs.Reader.{Ends, Opened}
-use Rattle.table_file.proofs.Loops.{keeps-none}
-use Rattle.table_file.proofs.walk_file.Statement.{statement}
-use Rattle.table_file.proofs.walk_file.Tie as tie
+use Rattle.walk.specs.Steps.{Ends, Opened}
+use Rattle.walk.proofs.Loops.{keeps-none}
+use Rattle.walk.proofs.walk_file.Statement.{statement}
+use Rattle.walk.proofs.walk_file.Tie as tie
 
 opened : (c : tie.After-open) (t : TableRead) → c .open .result ≡ t → Opened (c .before .before .before .before .args .file .now) t
 opened c t e = subst (Opened (c .before .before .before .before .args .file .now)) e (c .open .ensures)

@@ -1,13 +1,13 @@
--- `table_file::keep` meets its contract. Assumes nothing.
+-- `walk::keep` meets its contract. Assumes nothing.
 use mathlib.Core.Path.{_≡_, sym, _∙_, subst}
 use mathlib.Core.List.{_∷_}
 use borrow.Author.Needs.{needs}
 use Rattle.model.specs.File.{Entry, entryAt}
 use Rattle.theory.specs.Files.{Within}
-use Rattle.table_file.specs.Reader.{Kept}
-use Rattle.table_file.proofs.Loops.{as-entry, keeps}
-use Rattle.table_file.proofs.keep.Statement.{statement}
-use Rattle.table_file.proofs.keep.Tie as tie
+use Rattle.walk.specs.Steps.{Kept}
+use Rattle.walk.proofs.Loops.{as-entry, keeps}
+use Rattle.walk.proofs.keep.Statement.{statement}
+use Rattle.walk.proofs.keep.Tie as tie
 
 -- the three numbers are the record's cell
 abbrev entry : tie.After-amount-at → tie.Start

@@ -1,0 +1,4 @@
+pub mod WalkLaws
+pub mod NameLaws
+pub mod CellLaws
+pub mod Loops
