@@ -343,6 +343,8 @@ const PRODUCTION_1: [u64; 15] = [
 ];
 
 // Example 2, case 1, whose demand is all for construction, and example 3, which has none.
+const DEMAND_2: [u64; 15] = [0, 0, 0, 0, 0, 10000000, 0, 0, 0, 0, 0, 0, 0, 0, 0];
+
 const PRODUCTION_2: [u64; 15] = [
     57000,
     6000,
@@ -393,10 +395,8 @@ fn show_pay(a: &[u64], m: &[u64], v: &[u64], fin: &[u64], y: &[u64]) {
 }
 
 fn examples() {
-    let mut building = [0u64; 15];
-    building[5] = 10000000;
     pay(b"example 1, case 1", DEMAND_1, PRODUCTION_1);
-    pay(b"example 2, case 1", building, PRODUCTION_2);
+    pay(b"example 2, case 1", DEMAND_2, PRODUCTION_2);
     pay(b"example 3", [0; 15], PRODUCTION_3);
 }
 
