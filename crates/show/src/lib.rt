@@ -7,8 +7,8 @@ use model::Outcome;
 pub fn show_outcome(outcome: Outcome) {
     match outcome {
         Outcome::Settled { rounds } => {
-            io::write_all(STDOUT_FILENO, b" rounds ");
-            print_decimal(STDOUT_FILENO, rounds as u64);
+            show_word(b" rounds");
+            show_cell(rounds as u64);
         }
         Outcome::Refused { number, place } => show_refusal(number, place),
     }
@@ -16,22 +16,19 @@ pub fn show_outcome(outcome: Outcome) {
 
 pub fn show_answer(answer: Answer) {
     match answer {
-        Answer::Accepted => {
-            io::write_all(STDOUT_FILENO, b" accepted");
-        }
+        Answer::Accepted => show_word(b" accepted"),
         Answer::Refused { number, place } => show_refusal(number, place),
     }
 }
 
 fn show_refusal(number: u8, place: usize) {
-    io::write_all(STDOUT_FILENO, b" refused ");
-    print_decimal(STDOUT_FILENO, number as u64);
-    io::write_all(STDOUT_FILENO, b" ");
-    print_decimal(STDOUT_FILENO, place as u64);
+    show_word(b" refused");
+    show_cell(number as u64);
+    show_cell(place as u64);
 }
 
 fn show_cell(cell: u64) {
-    io::write_all(STDOUT_FILENO, b" ");
+    show_word(b" ");
     print_decimal(STDOUT_FILENO, cell);
 }
 
@@ -46,11 +43,33 @@ pub fn show_word(word: &[u8]) {
     io::write_all(STDOUT_FILENO, word);
 }
 
+// The first cells of a line, after a colon.
+pub fn show_first(cells: &[u64]) {
+    show_word(b":");
+    show_cells(cells);
+}
+
+// Further cells, after a bar.
+pub fn show_more(cells: &[u64]) {
+    show_word(b" |");
+    show_cells(cells);
+}
+
+pub fn show_end() {
+    show_word(b"\n");
+}
+
 // The outputs, and after a bar the work cells or further outputs.
 pub fn show_slices(out: &[u64], work: &[u64]) {
-    io::write_all(STDOUT_FILENO, b":");
-    show_cells(out);
-    io::write_all(STDOUT_FILENO, b" |");
-    show_cells(work);
-    io::write_all(STDOUT_FILENO, b"\n");
+    show_first(out);
+    show_more(work);
+    show_end();
+}
+
+// The same with outputs after two bars.
+pub fn show_three(out: &[u64], second: &[u64], third: &[u64]) {
+    show_first(out);
+    show_more(second);
+    show_more(third);
+    show_end();
 }

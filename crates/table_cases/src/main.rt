@@ -2,41 +2,28 @@
 // with every output cell. Each slice that is lent holds 7 in every cell before the call.
 use coefficients::coefficients;
 use show::show_answer;
-use show::show_cells;
+use show::show_end;
+use show::show_first;
+use show::show_more;
 use show::show_word;
 
 // The five sheets of a table, parted by bars.
 fn show_sheets(a: &[u64], v: &[u64], m: &[u64], d: &[u64], f: &[u64]) {
-    show_word(b":");
-    show_cells(a);
-    show_word(b" |");
-    show_cells(v);
-    show_word(b" |");
-    show_cells(m);
-    show_word(b" |");
-    show_cells(d);
-    show_word(b" |");
-    show_cells(f);
-    show_word(b"\n");
+    show_first(a);
+    show_more(v);
+    show_more(m);
+    show_more(d);
+    show_more(f);
+    show_end();
 }
 
 // Sheets from a table of n sectors with slices for two: a, v, m, d and f.
-fn sheets(
-    name: &[u8],
-    n: usize,
-    x: &[u64],
-    fin: &[u64],
-    e: &[u64],
-    m: &[u64],
-    v: &[u64],
-    p: &[u64],
-) {
+fn two_sectors(n: usize, x: &[u64], fin: &[u64], e: &[u64], m: &[u64], v: &[u64], p: &[u64]) {
     let mut a = [7u64; 4];
     let mut values = [7u64; 2];
     let mut shares = [7u64; 2];
     let mut d = [7u64; 4];
     let mut f = [7u64; 2];
-    show_word(name);
     show_answer(coefficients(
         n,
         x,
@@ -55,13 +42,12 @@ fn sheets(
 }
 
 // The same of a table of three sectors, with slices for three.
-fn three_sectors(name: &[u8], x: &[u64], fin: &[u64], e: &[u64], m: &[u64], v: &[u64], p: &[u64]) {
+fn three_sectors(x: &[u64], fin: &[u64], e: &[u64], m: &[u64], v: &[u64], p: &[u64]) {
     let mut a = [7u64; 9];
     let mut values = [7u64; 3];
     let mut shares = [7u64; 3];
     let mut d = [7u64; 9];
     let mut f = [7u64; 3];
-    show_word(name);
     show_answer(coefficients(
         3,
         x,
@@ -79,121 +65,96 @@ fn three_sectors(name: &[u8], x: &[u64], fin: &[u64], e: &[u64], m: &[u64], v: &
     show_sheets(&a, &values, &shares, &d, &f);
 }
 
+// Cuts the columns, one after the other, two amounts each; the exports are as many as are left.
+fn cut(n: usize, x: &[u64], columns: &[u64]) {
+    if columns.len() < 8 {
+        return;
+    }
+    let end = columns.len() - 6;
+    two_sectors(
+        n,
+        x,
+        &columns[0..2],
+        &columns[2..end],
+        &columns[end..end + 2],
+        &columns[end + 2..end + 4],
+        &columns[end + 4..],
+    );
+}
+
+// The flows row by row, and final demand, exports, imports, value added and production.
+fn sheets(name: &[u8], n: usize, x: [u64; 4], columns: [u64; 10]) {
+    show_word(name);
+    cut(n, &x, &columns);
+}
+
 // The worked table with another cell of x.
 fn with_flow(name: &[u8], flow: u64) {
     sheets(
         name,
         2,
-        &[100, 400, 300, flow],
-        &[500, 900],
-        &[250, 560],
-        &[250, 360],
-        &[600, 1000],
-        &[1000, 2000],
+        [100, 400, 300, flow],
+        [500, 900, 250, 560, 250, 360, 600, 1000, 1000, 2000],
     );
 }
 
 // The worked table with other columns.
-fn with_columns(name: &[u8], fin: &[u64], e: &[u64], m: &[u64], v: &[u64], p: &[u64]) {
-    sheets(name, 2, &[100, 400, 300, 600], fin, e, m, v, p);
+fn with_columns(name: &[u8], columns: [u64; 10]) {
+    sheets(name, 2, [100, 400, 300, 600], columns);
 }
 
-fn tables() {
+fn flows() {
     with_flow(b"P1", 600);
     with_flow(b"flow over", 1000000001);
     with_flow(b"flow that would wrap", 18446744073709551615);
     with_flow(b"column off", 601);
+}
+
+fn columns() {
     with_columns(
         b"demand over",
-        &[1000000001, 900],
-        &[250, 560],
-        &[250, 360],
-        &[600, 1000],
-        &[1000, 2000],
+        [1000000001, 900, 250, 560, 250, 360, 600, 1000, 1000, 2000],
     );
     with_columns(
         b"production over",
-        &[500, 900],
-        &[250, 560],
-        &[250, 360],
-        &[600, 1000],
-        &[1000, 1000000001],
+        [500, 900, 250, 560, 250, 360, 600, 1000, 1000, 1000000001],
     );
     with_columns(
         b"row off",
-        &[500, 900],
-        &[250, 561],
-        &[250, 360],
-        &[600, 1000],
-        &[1000, 2000],
+        [500, 900, 250, 561, 250, 360, 600, 1000, 1000, 2000],
+    );
+    with_columns(
+        b"imports over need",
+        [0, 0, 1501, 1561, 1001, 461, 600, 1000, 1000, 2000],
     );
 }
 
 fn more_tables() {
-    with_columns(
-        b"imports over need",
-        &[0, 0],
-        &[1501, 1561],
-        &[1001, 461],
-        &[600, 1000],
-        &[1000, 2000],
-    );
     sheets(
         b"column sum over",
         2,
-        &[960, 0, 0, 0],
-        &[40, 5],
-        &[0, 0],
-        &[0, 0],
-        &[40, 5],
-        &[1000, 5],
+        [960, 0, 0, 0],
+        [40, 5, 0, 0, 0, 0, 40, 5, 1000, 5],
     );
-    sheets(
-        b"all zero",
-        2,
-        &[0, 0, 0, 0],
-        &[0, 0],
-        &[0, 0],
-        &[0, 0],
-        &[0, 0],
-        &[0, 0],
-    );
+    sheets(b"all zero", 2, [0; 4], [0; 10]);
     sheets(
         b"bought by nobody",
         2,
-        &[0, 5, 0, 0],
-        &[0, 0],
-        &[0, 0],
-        &[0, 0],
-        &[5, 0],
-        &[5, 0],
+        [0, 5, 0, 0],
+        [0, 0, 0, 0, 0, 0, 5, 0, 5, 0],
     );
-    sheets(
-        b"no sectors",
-        0,
-        &[0, 0, 0, 0],
-        &[0, 0],
-        &[0, 0],
-        &[0, 0],
-        &[0, 0],
-        &[0, 0],
-    );
-    sheets(
-        b"exports short",
-        2,
-        &[0, 0, 0, 0],
-        &[0, 0],
-        &[0],
-        &[0, 0],
-        &[0, 0],
-        &[0, 0],
-    );
+    sheets(b"no sectors", 0, [0; 4], [0; 10]);
+}
+
+fn exports_short() {
+    show_word(b"exports short");
+    cut(2, &[0; 4], &[0; 9]);
 }
 
 // Table 3-1 of document 001, in units of 100 million yen: amounts that were rounded one by one, so that the third column misses by one.
 fn printed_table() {
+    show_word(b"Miyazaki as printed");
     three_sectors(
-        b"Miyazaki as printed",
         &[492, 2109, 104, 1069, 5744, 3998, 709, 4260, 9426],
         &[621, 11809, 29094],
         &[1753, 11767, 1931],
@@ -204,7 +165,9 @@ fn printed_table() {
 }
 
 fn main() {
-    tables();
+    flows();
+    columns();
     more_tables();
+    exports_short();
     printed_table();
 }
