@@ -6,11 +6,10 @@ use native.Mathlib.Omega.{arith}
 use lib.ListN.{length, take}
 use lib.Seq.{sets, length-take-le}
 use Rattle.model.specs.Numbers.{at}
-use Rattle.model.specs.Table.{Table, tableOf}
 use Rattle.model.specs.Rounds.{settled, inducedValueAdded, inducedImports}
 use Rattle.model.specs.Checks.{Report, accepts, refuses}
-use Rattle.model.specs.Calls.{coefficientsReport, inputCoefficients, valueAddedCoefficients, importCoefficients, domesticCoefficients, domesticDemands, productionReport, inducedReport}
-use Rattle.model.specs.Page.{pageBudget, refusalLine, orRefusal, sheet, inducedPage, productionPage, tablePage}
+use Rattle.model.specs.Calls.{productionReport, inducedReport}
+use Rattle.model.specs.Page.{pageBudget, refusalLine, orRefusal, sheet, inducedPage, productionPage}
 
 -- a text was written from the start of l, which then is m, and j is its length
 abbrev pub Page : List ℕ → List ℕ → List ℕ → ℕ → Type 0
@@ -24,10 +23,10 @@ pub room : {t u : List ℕ} {k : ℕ} → t ≡ u → length u ≤ k → length 
 room {k = k} e h = subst (λ (x : List ℕ). length x ≤ k) (sym e) h
 
 -- a call's report decides
-stop : (r : Report) (page : List ℕ) {q p : ℕ} → refuses q p ≡ r → refusalLine q p ≡ orRefusal r page
+pub stop : (r : Report) (page : List ℕ) {q p : ℕ} → refuses q p ≡ r → refusalLine q p ≡ orRefusal r page
 stop r page e = rw (sym e) refl
 
-on : (r : Report) (page : List ℕ) {k : ℕ} → accepts k ≡ r → page ≡ orRefusal r page
+pub on : (r : Report) (page : List ℕ) {k : ℕ} → accepts k ≡ r → page ≡ orRefusal r page
 on r page e = rw (sym e) refl
 
 module _ (n : ℕ) (a m v F f y : List ℕ) (rounds : ℕ) {b c : ℕ} (long : b ≡ n) (long′ : c ≡ n) where
@@ -61,32 +60,8 @@ module _ (n : ℕ) (a m v F d f : List ℕ) {b c : ℕ} (long : b ≡ n) (long�
       ∙ ap (λ (r : Report). inducedPage n a m v F f (settled n (at n d) f pageBudget) (r .rounds)) (e ∙ outcome)
       ∙ on (productionReport n d f pageBudget (n ∷ n ∷ [])) _ (e ∙ outcome)
 
-module _ (t : Table) {la ld lv lm lf : ℕ} (long-a : la ≡ t .sectors * t .sectors) (long-d : ld ≡ t .sectors * t .sectors)
-    (long-v : lv ≡ t .sectors) (long-m : lm ≡ t .sectors) (long-f : lf ≡ t .sectors) where
-  sheets : coefficientsReport t (la ∷ ld ∷ []) (lv ∷ lm ∷ lf ∷ []) ≡ coefficientsReport t (t .sectors * t .sectors ∷ t .sectors * t .sectors ∷ []) (t .sectors ∷ t .sectors ∷ t .sectors ∷ [])
-  sheets = rw (long-a, long-d, long-v, long-m, long-f) refl
-
-  pub table-stop : {q p : ℕ} → refuses q p ≡ coefficientsReport t (la ∷ ld ∷ []) (lv ∷ lm ∷ lf ∷ []) → refusalLine q p ≡ tablePage t
-  unfolding tablePage
-  table-stop e = stop _ _ (e ∙ sheets)
-
-  pub table-on : {a v m d f : List ℕ} → accepts 0 ≡ coefficientsReport t (la ∷ ld ∷ []) (lv ∷ lm ∷ lf ∷ [])
-      → a ≡ inputCoefficients t → v ≡ valueAddedCoefficients t → m ≡ importCoefficients t → d ≡ domesticCoefficients t → f ≡ domesticDemands t
-      → productionPage (t .sectors) a m v (t .finalDemand) d f ≡ tablePage t
-  unfolding tablePage
-  table-on e ea ev em ed ef = rw (ea, ev, em, ed, ef) (on _ _ (e ∙ sheets))
-
 -- the first n cells of an array
 pub part : (n : ℕ) (l : List ℕ) → n ≤ length l → length (take (n - 0) l) ≡ n
 part n l h =
     let e : n - 0 ≡ n = omega arith in
     ap (λ (k : ℕ). length (take k l)) e ∙ length-take-le n l h
-
--- the first cells of full slices are the table's
-pub cut : (n : ℕ) (x f e m v p : List ℕ)
-    → tablePage (tableOf n (take (n * n - 0) x) (take (n - 0) f) (take (n - 0) e) (take (n - 0) m) (take (n - 0) v) (take (n - 0) p))
-    ≡ tablePage (tableOf n (take (n * n) x) (take n f) (take n e) (take n m) (take n v) (take n p))
-cut n x f e m v p =
-    let square : n * n - 0 ≡ n * n = omega arith in
-    let same : n - 0 ≡ n = omega arith in
-    rw (square, same) refl

@@ -10,7 +10,8 @@ ghost use mathlib.Core.Path.{_≡_};
 ghost use Prim.Native.Nat.{_≤_};
 ghost use lib.ListN.{length};
 ghost use lib.Seq.{sets};
-ghost use Rattle.model.specs.Page.{inducedPage, productionPage};
+ghost use Rattle.model.specs.Checks.{report};
+ghost use Rattle.model.specs.Page.{inducedPage, orRefusal, productionPage};
 
 // What a production induces, and the sheet.
 fn induced_page(
@@ -39,7 +40,7 @@ fn induced_page(
 }
 
 // Production of a demand for domestic goods, and what it induces.
-pub fn production_page(
+fn production_page(
     n: usize,
     a: &[u64],
     m: &[u64],
@@ -73,6 +74,44 @@ pub fn production_page(
                 rounds,
                 &mut value[0..n],
                 &mut imports[0..n],
+                out,
+            )
+        }
+    }
+}
+
+// The page of a table by what its sheets were answered: a refusal's line, or what follows from the sheets.
+pub fn answered_page(
+    answer: Answer,
+    n: usize,
+    a: &[u64],
+    m: &[u64],
+    v: &[u64],
+    final_demand: &[u64],
+    d: &[u64],
+    f: &[u64],
+    out: &mut [u8],
+) -> usize
+    requires { ⌜ (n ≤ 40) × (length (now f) ≡ n) ⌝ }
+    requires { ⌜ length (orRefusal (report answer) (productionPage n (now a) (now m) (now v) (now «final_demand») (now d) (now f))) ≤ length (now out) ⌝ }
+    ensures { λ r. ⌜ r ≡ length (orRefusal (report answer) (productionPage n (now (a .entry)) (now (m .entry)) (now (v .entry)) (now («final_demand» .entry)) (now (d .entry)) (now (f .entry)))) ⌝ }
+    ensures { λ _. ⌜ now (out .exit) ≡ sets (now (out .entry)) 0 (orRefusal (report answer) (productionPage n (now (a .entry)) (now (m .entry)) (now (v .entry)) (now («final_demand» .entry)) (now (d .entry)) (now (f .entry)))) ⌝ }
+{
+    match answer {
+        Answer::Refused { number, place } => put_refusal(number, place, out),
+        Answer::Accepted => {
+            let mut y = [0u64; 40];
+            let mut work = [0u64; 40];
+            production_page(
+                n,
+                a,
+                m,
+                v,
+                final_demand,
+                d,
+                f,
+                &mut y[0..n],
+                &mut work[0..n],
                 out,
             )
         }

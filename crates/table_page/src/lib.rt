@@ -1,8 +1,6 @@
 // The page from a table on: its sheets, and what follows from them.
 use coefficients::coefficients;
-use lines::put_refusal;
-use model::Answer;
-use stages::production_page;
+use stages::answered_page;
 ghost use mathlib.Core.Path.{_≡_};
 ghost use Prim.Native.Nat.{_≤_, _*_};
 ghost use lib.ListN.{length, take};
@@ -45,25 +43,7 @@ fn table_page(
         d,
         f,
     );
-    match answer {
-        Answer::Refused { number, place } => put_refusal(number, place, out),
-        Answer::Accepted => {
-            let mut y = [0u64; 40];
-            let mut work = [0u64; 40];
-            production_page(
-                n,
-                a,
-                m,
-                v,
-                final_demand,
-                d,
-                f,
-                &mut y[0..n],
-                &mut work[0..n],
-                out,
-            )
-        }
-    }
+    answered_page(answer, n, a, m, v, final_demand, d, f, out)
 }
 
 // The page of the table of n sectors that a reading has left in full slices.

@@ -3,7 +3,8 @@ use Prim.Native.Nat.{_*_, _≤_}
 use native.Mathlib.Nat.{mul-le-mul}
 use native.Mathlib.Omega.{arith}
 use borrow.Author.Needs.{needs}
-use Rattle.stages.proofs.Stages.{told, room, part, cut}
+use Rattle.stages.proofs.Stages.{told, room, part}
+use Rattle.table_page.proofs.Tables.{cut}
 use Rattle.table_page.proofs.sheets_page.Statement.{statement}
 use Rattle.table_page.proofs.sheets_page.Tie as tie
 
