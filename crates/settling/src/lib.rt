@@ -32,13 +32,15 @@ fn run_turns(
     requires { ⌜ Narrow (now d) × RoundsFit n (at n (now d)) (now start) ⌝ }
     ensures { λ r. ⌜ Searched n (at n (now (d .entry))) (now (start .entry)) budget (reportRounds r) (now (out .exit)) ⌝ }
 {
+    let mut narrow = true;
     let mut done: u32 = 0;
     while done < budget {
-        let unchanged = turn(n, d, start, out, rises, sums);
+        let moved = turn(n, d, narrow, start, out, rises, sums);
         let count = done + 1;
-        if unchanged {
+        if moved == 0 {
             return Outcome::Settled { rounds: count };
         }
+        narrow = moved < 4_294_967_296;
         done = count;
     }
     Outcome::Refused {

@@ -1,6 +1,6 @@
 // One round of a settling loop, over lent slices.
 use cells::weighted_sum;
-ghost use mathlib.Core.Bool.{true, _&&_};
+ghost use mathlib.Core.Bool.{true};
 ghost use mathlib.Core.Path.{_≡_};
 ghost use Prim.Native.Nat.{ℕ, _+_, _*_, _-_, _<_, _≤_};
 ghost use lib.Dec.{eqb};
@@ -11,43 +11,15 @@ ghost use Rattle.model.specs.Checks.{demandLimit};
 ghost use Rattle.theory.specs.Bounds.{sumLimit, Narrow};
 ghost use Rattle.theory.specs.Rises.{raised, advanced, Carried};
 
-// Is a sector's amount the same as before?
-fn same_amount(a: u64, b: u64) -> bool
-    ensures { λ r. ⌜ r ≡ eqb a b ⌝ }
-{
-    a == b
-}
-
-// Are all sectors so far the same, and this one too?
-fn still_same(so_far: bool, a: u64, b: u64) -> bool
-    ensures { λ r. ⌜ r ≡ «so_far» && eqb a b ⌝ }
-{
-    if so_far {
-        return same_amount(a, b);
-    }
-    false
-}
-
-// Are all amounts below 2^32?
-fn is_narrow(amounts: &[u64]) -> bool
-    ensures { λ r. ⌜ (r ≡ true → Narrow (now (amounts .entry))) ⌝ }
-{
-    let mut bits: u64 = 0;
-    for j in 0..amounts.len() {
-        bits |= amounts[j];
-    }
-    bits < 4_294_967_296
-}
-
-// The same amount; where amounts are narrow the compiler is told so.
-fn narrowed(narrow: bool, amount: u64) -> u64
-    requires { ⌜ (narrow ≡ true → amount < 4294967296) ⌝ }
-    ensures { λ r. ⌜ r ≡ amount ⌝ }
+// The same rise; where rises are narrow the compiler is told so.
+fn narrowed(narrow: bool, rise: u64) -> u64
+    requires { ⌜ (narrow ≡ true → rise < 4294967296) ⌝ }
+    ensures { λ r. ⌜ r ≡ rise ⌝ }
 {
     if narrow {
-        return amount % 4_294_967_296;
+        return rise % 4_294_967_296;
     }
-    amount
+    rise
 }
 
 // Adds the weighted sums of the rises along rows i and i + 1, in one pass over the rises. Narrow coefficients take one multiplication of 32
@@ -70,13 +42,12 @@ fn add_pair(n: usize, d: &[u64], narrow: bool, rises: &[u64], i: usize, sums: &m
 }
 
 // Adds the weighted sums of the rises along every row.
-fn add_rises(n: usize, d: &[u64], rises: &[u64], sums: &mut [u64])
+fn add_rises(n: usize, d: &[u64], narrow: bool, rises: &[u64], sums: &mut [u64])
     requires { ⌜ (length (now d) ≡ n * n) × (length (now rises) ≡ n) × (length (now sums) ≡ n) ⌝ }
-    requires { ⌜ Narrow (now d) ⌝ }
+    requires { ⌜ Narrow (now d) × (narrow ≡ true → Narrow (now rises)) ⌝ }
     requires { ⌜ ((i : ℕ) → i < n → raised n (now d) (now rises) (now sums) i ≤ sumLimit) ⌝ }
     ensures { λ _. ⌜ now (sums .exit) ≡ tabulate n (raised n (now (d .entry)) (now (rises .entry)) (now (sums .entry))) ⌝ }
 {
-    let narrow = is_narrow(rises);
     let mut i: usize = 0;
     while i + 1 < n {
         add_pair(n, d, narrow, rises, i, sums);
@@ -87,44 +58,50 @@ fn add_rises(n: usize, d: &[u64], rises: &[u64], sums: &mut [u64])
     }
 }
 
-// Every sector's start and what industry takes of it, into `out`, and by how much it rose. Answers whether no sector of `out` changes.
-fn advance(n: usize, start: &[u64], sums: &[u64], out: &mut [u64], rises: &mut [u64]) -> bool
+// Every sector's start and what industry takes of it, into `out`, and by how much it rose. Answers how far sectors moved: 0 where none did, else
+// a number that is nowhere below a rise.
+fn advance(n: usize, start: &[u64], sums: &[u64], out: &mut [u64], rises: &mut [u64]) -> u64
     requires { ⌜ (length (now start) ≡ n) × (length (now sums) ≡ n) × (length (now out) ≡ n) × (length (now rises) ≡ n) ⌝ }
     requires { ⌜ ((i : ℕ) → i < n → (cell (now start) i ≤ demandLimit) × (cell (now sums) i ≤ sumLimit) × (cell (now out) i ≤ advanced (now start) (now sums) i)) ⌝ }
-    ensures { λ r. ⌜ r ≡ same n (tabulate n (advanced (now (start .entry)) (now (sums .entry)))) (now (out .entry)) ⌝ }
+    ensures { λ r. ⌜ eqb r 0 ≡ same n (tabulate n (advanced (now (start .entry)) (now (sums .entry)))) (now (out .entry)) ⌝ }
+    ensures { λ r. ⌜ ((i : ℕ) → i < n → cell (now (rises .exit)) i ≤ r) ⌝ }
     ensures { λ _. ⌜ now (out .exit) ≡ tabulate n (advanced (now (start .entry)) (now (sums .entry))) ⌝ }
     ensures { λ _. ⌜ now (rises .exit) ≡ tabulate n (λ i. advanced (now (start .entry)) (now (sums .entry)) i - cell (now (out .entry)) i) ⌝ }
 {
-    let mut unchanged = true;
+    let mut moved: u64 = 0;
     for i in 0..n {
         let amount = start[i] + sums[i] / 1_000_000;
-        unchanged = still_same(unchanged, amount, out[i]);
-        rises[i] = amount - out[i];
+        let rise = amount - out[i];
+        moved |= rise;
+        rises[i] = rise;
         out[i] = amount;
     }
-    unchanged
+    moved
 }
 
 // One round more along the rows of d, from `out` to `out`: every sector's start, and what industry takes of it at the amounts of the round
 // before. The weighted sums of those amounts are the sums of the round before it and what the rises since then add: rises are small, so that
-// their products are cheap where those of the amounts are not. Answers whether the round changed no sector.
+// their products are cheap where those of the amounts are not. Answers 0 where the round changed no sector, else a number that is nowhere below
+// a rise.
 pub fn turn(
     n: usize,
     d: &[u64],
+    narrow: bool,
     start: &[u64],
     out: &mut [u64],
     rises: &mut [u64],
     sums: &mut [u64],
-) -> bool
+) -> u64
     requires { ⌜ (length (now d) ≡ n * n) × (length (now start) ≡ n) × (length (now out) ≡ n) × (length (now rises) ≡ n) × (length (now sums) ≡ n) ⌝ }
-    requires { ⌜ Narrow (now d) × Carried n (now d) (now rises) (now sums) (now out) ⌝ }
+    requires { ⌜ Narrow (now d) × (narrow ≡ true → Narrow (now rises)) × Carried n (now d) (now rises) (now sums) (now out) ⌝ }
     requires { ⌜ ((i : ℕ) → i < n → cell (now start) i ≤ demandLimit) ⌝ }
     requires { ⌜ ((i : ℕ) → i < n → weighted n (at n (now d)) (cell (now out)) i ≤ sumLimit) ⌝ }
     requires { ⌜ ((i : ℕ) → i < n → cell (now out) i ≤ cell (round n (at n (now d)) (now start) (now out)) i) ⌝ }
-    ensures { λ r. ⌜ r ≡ same n (round n (at n (now (d .entry))) (now (start .entry)) (now (out .entry))) (now (out .entry)) ⌝ }
+    ensures { λ r. ⌜ eqb r 0 ≡ same n (round n (at n (now (d .entry))) (now (start .entry)) (now (out .entry))) (now (out .entry)) ⌝ }
+    ensures { λ r. ⌜ ((i : ℕ) → i < n → cell (now (rises .exit)) i ≤ r) ⌝ }
     ensures { λ _. ⌜ now (out .exit) ≡ round n (at n (now (d .entry))) (now (start .entry)) (now (out .entry)) ⌝ }
     ensures { λ _. ⌜ Carried n (now (d .entry)) (now (rises .exit)) (now (sums .exit)) (now (out .exit)) ⌝ }
 {
-    add_rises(n, d, rises, sums);
+    add_rises(n, d, narrow, rises, sums);
     advance(n, start, sums, out, rises)
 }

@@ -1,12 +1,15 @@
 -- `settling::run_turns` meets its contract: out has the amounts after `done` rounds, each of which changed a sector. Assumes nothing.
-use mathlib.Core.Path.{_≡_, refl, sym, _∙_, ap}
-use mathlib.Core.Bool.{false≢true}
-use Prim.Native.Nat.{ℕ, _+_, _≤_, _-_}
+use mathlib.Core.Path.{_≡_, refl, sym, _∙_, ap, subst, subst⁻¹}
+use mathlib.Core.Bool.{true, false≢true}
+use Prim.Native.Nat.{ℕ, _+_, _≤_, _<_, _-_}
+use native.Mathlib.Nat.{lt-of-le-of-lt}
 use native.Mathlib.Omega.{arith}
+use borrow.Author.Tests.{eq-eqb, ne-eqb, ltb-true}
 use lib.ListN.{length, length-replicate}
 use Rattle.model.specs.Numbers.{at}
 use Rattle.model.specs.Rounds.{rounds, changes, Settles}
 use Rattle.theory.proofs.Lists.{All}
+use Rattle.theory.specs.Bounds.{Narrow}
 use Rattle.theory.specs.Rises.{Carried}
 use Rattle.theory.proofs.Rises.{carried-start}
 use Rattle.theory.proofs.Rounds.{rising-from}
@@ -16,12 +19,12 @@ use Rattle.settling.proofs.run_turns.Statement.{statement}
 use Rattle.settling.proofs.run_turns.Tie as tie
 
 abbrev Inv-loop : tie.InvT-loop
-Inv-loop n d start budget out₀ rises₀ sums₀ done₀ out rises sums done =
+Inv-loop n d start budget out₀ rises₀ sums₀ narrow₀ done₀ out rises sums narrow done =
     (done ≤ budget) × (length out ≡ length out₀) × (length rises ≡ length rises₀) × (length sums ≡ length sums₀)
-    × (out ≡ rounds n (at n d) start done) × All (changes n (at n d) start) (done + 1) × Carried n d rises sums out
+    × (out ≡ rounds n (at n d) start done) × All (changes n (at n d) start) (done + 1) × Carried n d rises sums out × (narrow ≡ true → Narrow rises)
 
 abbrev μ-loop : tie.MeasureT-loop
-μ-loop n d start budget out₀ rises₀ sums₀ done₀ out rises sums done = budget - done
+μ-loop n d start budget out₀ rises₀ sums₀ narrow₀ done₀ out rises sums narrow done = budget - done
 
 abbrev entry : tie.At-loop Inv-loop μ-loop → tie.Start Inv-loop μ-loop
 entry p = p .before .before .before .before .before .before
@@ -39,11 +42,11 @@ after c = c .before .before .before .before .before .before .before
 settles :
     (c : tie.Then1 Inv-loop μ-loop) →
     let p = head (after c) in
-    Settles (entry p .args .n) (coefficients p) (entry p .args .start .now) (p .loop .done + 1) (after c .turn .last .1 .1 .1 .0)
+    Settles (entry p .args .n) (coefficients p) (entry p .args .start .now) (p .loop .done + 1) (after c .turn .last .1 .1 .1 .1 .0)
 settles c =
     let p = head (after c) in
     turn-settles (entry p .args .n) (coefficients p) (entry p .args .start .now) (p .loop .done) (p .loop .out) (p .loop .inv .4) (p .loop .inv .5)
-    (after c .turn .ensures .1 .0) (sym (c .if1 .taken) ∙ after c .turn .ensures .0)
+    (after c .turn .ensures .1 .1 .0) (sym (eq-eqb _ 0 (c .if1 .taken)) ∙ after c .turn .ensures .0)
 
 loop-holds : tie.Need-loop-holds Inv-loop μ-loop
 unfolding rounds
@@ -57,6 +60,7 @@ loop-holds c =
       s .pre .0 .2,
       none-yet _ _ _,
       λ i h. rw (s .pre .0 .2, s .pre .0 .3, s .pre .0 .4) (carried-start (a .n) (a .d .now) (a .start .now) i h),
+      λ t. subst⁻¹ Narrow (s .pre .0 .3) (λ k h. omega (arith, s .pre .1 .0 k (subst (λ (x : ℕ). k < x) (s .pre .0 .1) h))),
     )
 
 turn-requires : tie.Need-turn-requires Inv-loop μ-loop
@@ -73,7 +77,7 @@ turn-requires c κs =
         l .inv .3 ∙ ap length (s .pre .0 .4) ∙ length-replicate (a .n) 0,
       ),
       (
-        (s .pre .1 .1 .0, l .inv .6),
+        (s .pre .1 .1 .0, l .inv .7, l .inv .6),
         (
           s .pre .1 .0,
           (rw (l .inv .4) (s .pre .1 .1 .1 (l .done)), rising-from (a .n) (coefficients p) (a .start .now) (l .done) (l .out) (l .inv .4)),
@@ -85,10 +89,10 @@ turn-requires c κs =
 lengths :
     (q : tie.After-turn Inv-loop μ-loop) →
     let a = entry (head q) .args in
-    let l = q .turn .last .1 .1 .1 in
+    let l = q .turn .last .1 .1 .1 .1 in
     (length (l .0) ≡ length (a .out .now)) × (length (l .1 .0) ≡ length (a .rises .now)) × (length (l .1 .1 .0) ≡ length (a .sums .now))
 lengths q =
-    let k = q .turn .kept .1 .1 .1 in
+    let k = q .turn .kept .1 .1 .1 .1 in
     let l = head q .loop in
     (k .0 ∙ l .inv .1, k .1 .0 ∙ l .inv .2, k .1 .1 .0 ∙ l .inv .3)
 
@@ -108,9 +112,10 @@ loop-again c =
       lengths q .0,
       lengths q .1,
       lengths q .2,
-      turn-amounts (a .n) (coefficients p) (a .start .now) (l .done) (l .out) (l .inv .4) (l .inv .5) (q .turn .ensures .1 .0),
-      turn-more (a .n) (coefficients p) (a .start .now) (l .done) (l .out) (l .inv .4) (l .inv .5) (sym (c .if1 .left) ∙ q .turn .ensures .0),
-      q .turn .ensures .1 .1,
+      turn-amounts (a .n) (coefficients p) (a .start .now) (l .done) (l .out) (l .inv .4) (l .inv .5) (q .turn .ensures .1 .1 .0),
+      turn-more (a .n) (coefficients p) (a .start .now) (l .done) (l .out) (l .inv .4) (l .inv .5) (sym (ne-eqb _ 0 (c .if1 .left)) ∙ q .turn .ensures .0),
+      q .turn .ensures .1 .1 .1,
+      λ t k h. lt-of-le-of-lt (q .turn .ensures .1 .0 k (subst (λ (x : ℕ). k < x) (lengths q .1 ∙ ap length (entry p .pre .0 .3) ∙ entry p .pre .0 .1) h)) (ltb-true _ 4294967296 t),
     )
 
 returns-2 : tie.Need-returns-2 Inv-loop μ-loop

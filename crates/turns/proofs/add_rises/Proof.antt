@@ -13,13 +13,13 @@ use Rattle.turns.proofs.add_rises.Statement.{statement}
 use Rattle.turns.proofs.add_rises.Tie as tie
 
 abbrev Inv-loop : tie.InvT-loop
-Inv-loop n d rises sums₀ narrow i₀ sums i = (i ≤ n) × (length sums ≡ n) × Over sums i (raised n d rises sums₀) sums₀
+Inv-loop n d narrow rises sums₀ i₀ sums i = (i ≤ n) × (length sums ≡ n) × Over sums i (raised n d rises sums₀) sums₀
 
 abbrev μ-loop : tie.MeasureT-loop
-μ-loop n d rises sums₀ narrow i₀ sums i = n - i
+μ-loop n d narrow rises sums₀ i₀ sums i = n - i
 
 abbrev entry : tie.At-loop Inv-loop μ-loop → tie.Start Inv-loop μ-loop
-entry p = p .before .before .before .before .before
+entry p = p .before .before .before .before
 
 -- the sums with what the rises add
 abbrev next : tie.At-loop Inv-loop μ-loop → ℕ → ℕ
@@ -27,7 +27,7 @@ next p = let a = entry p .args in raised (a .n) (a .d .now) (a .rises .now) (a .
 
 loop-holds : tie.Need-loop-holds Inv-loop μ-loop
 loop-holds c =
-    let s = c .before .before .before .before in
+    let s = c .before .before .before in
     (omega arith, s .pre .0 .2, over-none (s .args .sums .now) _)
 
 add-loop : tie.Need-add-loop Inv-loop μ-loop
@@ -45,7 +45,7 @@ add-pair-requires c κs =
     let h = c .before .loop-test .taken in (
       (s .pre .0 .0, s .pre .0 .1, p .loop .inv .1, h),
       (
-        (s .pre .1 .0, p .before .is-narrow .ensures),
+        s .pre .1 .0,
         (
           omega (arith, still p i (omega arith), s .pre .1 .1 i (omega arith)),
           omega (arith, still p (i + 1) (omega arith), s .pre .1 .1 (i + 1) h),
@@ -112,6 +112,6 @@ pub add-rises-spec : {M : Type 1} → statement M
 add-rises-spec =
     tie.close
     (tie.spec
-    Inv-loop μ-loop (λ c κs. search needs) loop-holds add-loop add-pair-requires (λ c. omega arith)
+    Inv-loop μ-loop loop-holds add-loop add-pair-requires (λ c. omega arith)
     (λ c. omega arith) loop-again weighted-sum-requires (λ c. omega arith) (λ c. omega arith) add-sums (λ c. omega arith)
     same-length returns same-length-2 returns-2)

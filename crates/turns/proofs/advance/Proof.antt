@@ -1,79 +1,104 @@
 -- `turns::advance` meets its contract: out has the new amounts below i and the old ones from i on, rises has how much the first i rose, and
--- unchanged tells whether the first i are the same. Assumes nothing.
-use mathlib.Core.Bool.{_&&_}
-use mathlib.Core.Path.{_≡_, refl, sym, ap, _∙_}
-use Prim.Native.Nat.{ℕ, _≤_, _-_}
-use native.Mathlib.Nat.{le-refl}
+-- moved is 0 where these are the same, and nowhere below a rise of them. Assumes nothing.
+use mathlib.Core.Bool.{Bool, _&&_}
+use mathlib.Core.Path.{_≡_, refl, sym, ap, subst, subst⁻¹, _∙_}
+use Prim.Native.Nat.{ℕ, _+_, _≤_, _<_, _-_}
+use native.Mathlib.Nat.{le-refl, le-trans, lt-of-lt-of-le}
 use native.Mathlib.Omega.{arith}
-use borrow.Author.Needs.{needs}
+use borrow.Author.Count.{below-more, below-none}
+use lib.Bits.{bitOr}
 use lib.Dec.{eqb}
 use lib.ListN.{length, length-set}
 use Rattle.model.specs.Numbers.{cell, same, tabulate}
 use Rattle.theory.specs.Rises.{advanced}
 use Rattle.theory.proofs.Lists.{Agree, agree-none, agree-set, Over, over-none, over-set, tabulated, cell-tabulate, same-more}
+use Rattle.turns.proofs.Narrowing.{le-or-left, le-or-right, or-none, rise-none}
 use Rattle.turns.proofs.advance.Statement.{statement}
 use Rattle.turns.proofs.advance.Tie as tie
 
 abbrev Inv-loop : tie.InvT-loop
-Inv-loop n start sums out₀ rises₀ unchanged₀ i₀ out rises unchanged i =
+Inv-loop n start sums out₀ rises₀ moved₀ i₀ out rises moved i =
     (i ≤ n) × (length out ≡ n) × (length rises ≡ n) × Over out i (advanced start sums) out₀
-    × Agree rises i (λ k. advanced start sums k - cell out₀ k) × (unchanged ≡ same i (tabulate n (advanced start sums)) out₀)
+    × Agree rises i (λ k. advanced start sums k - cell out₀ k) × (eqb moved 0 ≡ same i (tabulate n (advanced start sums)) out₀)
+    × ((k : ℕ) → k < i → advanced start sums k - cell out₀ k ≤ moved)
 
 abbrev μ-loop : tie.MeasureT-loop
-μ-loop n start sums out₀ rises₀ unchanged₀ i₀ out rises unchanged i = n - i
-
-abbrev entry : tie.At-loop Inv-loop μ-loop → tie.Start Inv-loop μ-loop
-entry p = p .before .before .before .before .before
+μ-loop n start sums out₀ rises₀ moved₀ i₀ out rises moved i = n - i
 
 abbrev next : tie.At-loop Inv-loop μ-loop → ℕ → ℕ
-next p = advanced (entry p .args .start .now) (entry p .args .sums .now)
+next p = advanced (p .before .args .start .now) (p .before .args .sums .now)
+
+-- by how much a sector rises
+abbrev rise : tie.At-loop Inv-loop μ-loop → ℕ → ℕ
+rise p k = next p k - cell (p .before .args .out .now) k
 
 loop-holds : tie.Need-loop-holds Inv-loop μ-loop
-loop-holds c =
-    let s = c .before .before .before .before in
-    (omega arith, s .pre .0 .2, s .pre .0 .3, over-none (s .args .out .now) _, agree-none (s .args .rises .now) _, refl)
+loop-holds c = (omega arith, c .pre .0 .2, c .pre .0 .3, over-none (c .args .out .now) _, agree-none (c .args .rises .now) _, refl, below-none _)
 
 add-amount : tie.Need-add-amount Inv-loop μ-loop
 add-amount c =
-    let p = c .before .before .before in
-    omega (arith, entry p .pre .1 (p .loop .i) (c .before .before .loop-test .taken))
+    let q = c .before .before in
+    omega (arith, q .before .before .pre .1 (q .before .loop .i) (q .loop-test .taken))
 
 -- the amount of a turn's sector is still the old one
-still : (p : tie.At-loop Inv-loop μ-loop) → cell (p .loop .out) (p .loop .i) ≡ cell (entry p .args .out .now) (p .loop .i)
+still : (p : tie.At-loop Inv-loop μ-loop) → cell (p .loop .out) (p .loop .i) ≡ cell (p .before .args .out .now) (p .loop .i)
 still p = p .loop .inv .3 .1 (p .loop .i) (le-refl _)
 
-sub-rises : tie.Need-sub-rises Inv-loop μ-loop
-sub-rises c =
-    let q = c .before .before .before .before in
-    let p = q .before .before in
-    omega (arith, still p, entry p .pre .1 (p .loop .i) (q .before .loop-test .taken))
+sub-rise : tie.Need-sub-rise Inv-loop μ-loop
+sub-rise c =
+    let q = c .before .before .before in
+    omega (arith, still (q .before), q .before .before .pre .1 (q .before .loop .i) (q .loop-test .taken))
+
+-- what is told of the first i and one more
+told :
+    (q : tie.In-loop Inv-loop μ-loop) →
+    let p = q .before in
+    let l = p .loop in
+    eqb (bitOr (l .moved) (rise p (l .i))) 0 ≡ same (l .i + 1) (tabulate (p .before .args .n) (next p)) (p .before .args .out .now)
+told q =
+    let p = q .before in
+    let l = p .loop in
+    let a = p .before .args in
+    or-none (l .moved) (rise p (l .i))
+    ∙ ap (λ (b : Bool). eqb (l .moved) 0 && b) (rise-none (next p (l .i)) (cell (a .out .now) (l .i)) (p .before .pre .1 (l .i) (q .loop-test .taken) .2))
+    ∙ same-more (l .i) (tabulate (a .n) (next p)) (a .out .now) (l .inv .5) (sym (cell-tabulate (a .n) (next p) (l .i) (q .loop-test .taken)))
+
+bounded :
+    (p : tie.At-loop Inv-loop μ-loop) (k : ℕ) → k < p .loop .i + 1 → rise p k ≤ bitOr (p .loop .moved) (rise p (p .loop .i))
+bounded p =
+    let l = p .loop in
+    below-more (λ k. rise p k ≤ bitOr (l .moved) (rise p (l .i))) (l .i)
+    (λ k h. le-trans (l .inv .6 k h) (le-or-left (l .moved) (rise p (l .i)))) (le-or-right (l .moved) (rise p (l .i)))
 
 loop-again : tie.Need-loop-again Inv-loop μ-loop
 loop-again c =
-    let q = c .before .before .before .before in
-    let p = q .before .before in
+    let q = c .before .before .before in
+    let p = q .before in
     let l = p .loop in
-    let a = entry p .args in
-    let h = q .before .loop-test .taken in (
+    let a = p .before .args in
+    let e = ap (λ (x : ℕ). next p (l .i) - x) (still p) in (
       omega arith,
       simp length-set (l .inv .1),
       simp length-set (l .inv .2),
       over-set (l .out) (l .i) _ (a .out .now) _ (omega arith) refl (l .inv .3),
-      agree-set (l .rises) (l .i) _ _ (omega arith) (ap (λ (x : ℕ). next p (l .i) - x) (still p)) (l .inv .4),
-      c .before .still-same .ensures ∙ ap (λ (x : ℕ). l .unchanged && eqb (next p (l .i)) x) (still p)
-          ∙ same-more (l .i) (tabulate (a .n) (next p)) (a .out .now) (l .inv .5) (sym (cell-tabulate (a .n) (next p) (l .i) h)),
+      agree-set (l .rises) (l .i) _ _ (omega arith) e (l .inv .4),
+      ap (λ (x : ℕ). eqb (bitOr (l .moved) x) 0) e ∙ told q,
+      λ k h. subst⁻¹ (λ (x : ℕ). rise p k ≤ bitOr (l .moved) x) e (bounded p k h),
     )
 
 returns : tie.Need-returns Inv-loop μ-loop
 returns c =
     let p = c .before in
     let l = p .loop in
-    let a = entry p .args in
+    let a = p .before .args in
     let all : l .i ≡ a .n = omega arith in (
       l .inv .5 ∙ ap (λ (k : ℕ). same k (tabulate (a .n) (next p)) (a .out .now)) all,
       (
-        tabulated (a .n) (l .i) (next p) (l .out) (l .inv .1) (c .loop-test .left) (l .inv .3 .0),
-        tabulated (a .n) (l .i) _ (l .rises) (l .inv .2) (c .loop-test .left) (l .inv .4),
+        λ k h. let g : k < l .i = omega arith in subst⁻¹ (λ (x : ℕ). x ≤ l .moved) (l .inv .4 k g) (l .inv .6 k g),
+        (
+          tabulated (a .n) (l .i) (next p) (l .out) (l .inv .1) (c .loop-test .left) (l .inv .3 .0),
+          tabulated (a .n) (l .i) _ (l .rises) (l .inv .2) (c .loop-test .left) (l .inv .4),
+        ),
       ),
     )
 
@@ -82,6 +107,5 @@ advance-spec =
     tie.close
     (tie.spec
     Inv-loop μ-loop loop-holds (λ c. omega arith) (λ c. omega arith) (λ c. omega arith) (λ c. omega arith) add-amount
-    (λ c. omega arith) (λ c. omega arith) (λ c κs. search needs) (λ c. omega arith) (λ c. omega arith) sub-rises
-    (λ c. omega arith) (λ c. omega arith) (λ c. omega arith) (λ c. omega arith) (λ c. omega arith) (λ c. omega arith) loop-again
-    (λ c. omega arith) (λ c. omega arith) returns)
+    (λ c. omega arith) (λ c. omega arith) sub-rise (λ c. omega arith) (λ c. omega arith) (λ c. omega arith) (λ c. omega arith)
+    (λ c. omega arith) (λ c. omega arith) loop-again (λ c. omega arith) (λ c. omega arith) returns)

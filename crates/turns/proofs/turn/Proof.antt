@@ -17,7 +17,7 @@ abbrev entry : tie.After-add-rises → tie.Start
 entry q = q .before .before .before .before .before .before .before .before
 
 abbrev sums : tie.After-add-rises → List ℕ
-sums q = q .add-rises .last .1 .1 .1 .0
+sums q = q .add-rises .last .1 .1 .1 .1 .0
 
 abbrev next : tie.After-add-rises → List ℕ
 next q = let a = entry q .args in round (a .n) (at (a .n) (a .d .now)) (a .start .now) (a .out .now)
@@ -26,7 +26,7 @@ next q = let a = entry q .args in round (a .n) (at (a .n) (a .d .now)) (a .start
 made : (q : tie.After-add-rises) → tabulate (entry q .args .n) (advanced (entry q .args .start .now) (sums q)) ≡ next q
 made q =
     let a = entry q .args in
-    round-advanced (a .n) (a .d .now) (a .rises .now) (a .sums .now) (a .out .now) (sums q) (entry q .pre .1 .0 .1) (q .add-rises .ensures) (a .start .now)
+    round-advanced (a .n) (a .d .now) (a .rises .now) (a .sums .now) (a .out .now) (sums q) (entry q .pre .1 .0 .2) (q .add-rises .ensures) (a .start .now)
 
 made-cell : (q : tie.After-add-rises) (i : ℕ) → i < entry q .args .n → advanced (entry q .args .start .now) (sums q) i ≡ cell (next q) i
 made-cell q i h = sym (cell-tabulate (entry q .args .n) (advanced (entry q .args .start .now) (sums q)) i h) ∙ ap (λ (l : List ℕ). cell l i) (made q)
@@ -39,7 +39,7 @@ room :
 room q i h =
     let s = entry q in
     let a = s .args in
-    let e = new-sum (a .n) (a .d .now) (a .rises .now) (a .sums .now) (a .out .now) (sums q) (s .pre .1 .0 .1) (q .add-rises .ensures) i h in (
+    let e = new-sum (a .n) (a .d .now) (a .rises .now) (a .sums .now) (a .out .now) (sums q) (s .pre .1 .0 .2) (q .add-rises .ensures) i h in (
       s .pre .1 .1 .0 i h,
       subst⁻¹ (λ (x : ℕ). x ≤ sumLimit) e (s .pre .1 .1 .1 .0 i h),
       subst⁻¹ (λ (x : ℕ). cell (a .out .now) i ≤ x) (made-cell q i h) (s .pre .1 .1 .1 .1 i h),
@@ -49,14 +49,14 @@ add-rises-requires : tie.Need-add-rises-requires
 add-rises-requires c κs =
     let s = c .before .before .before .before .before .before .before in (
       (s .pre .0 .0, s .pre .0 .3, s .pre .0 .4),
-      (s .pre .1 .0 .0, λ i h. subst⁻¹ (λ (x : ℕ). x ≤ sumLimit) (s .pre .1 .0 .1 i h) (s .pre .1 .1 .1 .0 i h)),
+      ((s .pre .1 .0 .0, s .pre .1 .0 .1), λ i h. subst⁻¹ (λ (x : ℕ). x ≤ sumLimit) (s .pre .1 .0 .2 i h) (s .pre .1 .1 .1 .0 i h)),
     )
 
 advance-requires : tie.Need-advance-requires
 advance-requires c κs =
     let q = c .before .before .before .before .before in
     let s = entry q in
-    ((s .pre .0 .1, q .add-rises .kept .1 .1 .1 .0 ∙ s .pre .0 .4, s .pre .0 .2, s .pre .0 .3), room q)
+    ((s .pre .0 .1, q .add-rises .kept .1 .1 .1 .1 .0 ∙ s .pre .0 .4, s .pre .0 .2, s .pre .0 .3), room q)
 
 returns : tie.Need-returns
 returns c =
@@ -64,15 +64,18 @@ returns c =
     let q = c .before .before .before .before .before .before .before .before .before .before in
     let s = entry q in
     let a = s .args in
-    let out = v .ensures .1 .0 ∙ made q in
-    let rose = v .ensures .1 .1 ∙ tabulate-cong (a .n) (λ i h. ap (λ (x : ℕ). x - cell (a .out .now) i) (made-cell q i h)) in (
+    let out = v .ensures .1 .1 .0 ∙ made q in
+    let rose = v .ensures .1 .1 .1 ∙ tabulate-cong (a .n) (λ i h. ap (λ (x : ℕ). x - cell (a .out .now) i) (made-cell q i h)) in (
       v .ensures .0 ∙ ap (λ (l : List ℕ). same (a .n) l (a .out .now)) (made q),
       (
-        out,
-        λ i h.
-            rw out
-            (carried-on (a .n) (a .d .now) (a .rises .now) (a .sums .now) (a .out .now) (sums q) (s .pre .1 .0 .1) (q .add-rises .ensures)
-            (next q) _ (s .pre .1 .1 .1 .1) rose i h),
+        v .ensures .1 .0,
+        (
+          out,
+          λ i h.
+              rw out
+              (carried-on (a .n) (a .d .now) (a .rises .now) (a .sums .now) (a .out .now) (sums q) (s .pre .1 .0 .2) (q .add-rises .ensures)
+              (next q) _ (s .pre .1 .1 .1 .1) rose i h),
+        ),
       ),
     )
 
