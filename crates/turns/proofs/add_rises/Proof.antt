@@ -4,7 +4,6 @@ use mathlib.Core.Path.{_≡_, _∙_, ap₂, subst⁻¹}
 use Prim.Native.Nat.{ℕ, _+_, _≤_, _-_}
 use native.Mathlib.Nat.{le-refl}
 use native.Mathlib.Omega.{arith}
-use borrow.Author.Needs.{needs}
 use lib.ListN.{length, set, length-set}
 use Rattle.model.specs.Numbers.{cell}
 use Rattle.theory.specs.Rises.{raised}
