@@ -1,8 +1,8 @@
 /*
  * Tawqeshim for C: input-output sheets, production, prices and multipliers of a region, in whole numbers.
  *
- * Each function does what the library's call of the same name does, and is proved to (crates/capi). Link with libcapi.a, which
- * `rt staticlib capi` writes, or with libtawqeshim.so, which scripts/shared-library builds. Both are for x86-64 Linux.
+ * Each function does what the library's call of the same name does, and is proved to (crates/capi, crates/capi_table). Link with
+ * libtawqeshim.so or with libtawqeshim.a, which scripts/shared-library builds. Both are for x86-64 Linux.
  *
  * A table has n sectors, 1 to 40, counted from 0. Matrices have n * n cells, row by row: the cell of row i and column j is cell i * n + j.
  * Amounts are whole numbers of one money unit. Shares and coefficients are whole millionths: "one" is 1,000,000. Quotients are rounded down.

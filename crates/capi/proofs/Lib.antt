@@ -1,3 +1,2 @@
 -- Laws of what the calls for C tell.
 pub mod Rows
-pub mod Numbers

@@ -1,1 +1,2 @@
+-- What the contract of the reader cites beside the definitions of `model`.
 pub mod Reader

@@ -25,6 +25,7 @@ pub record Agrees (es : List Entry) (marks : List ℕ) : Type 0 where
   pub same : (e : Entry) → marked marks (e .line) (e .position) ≡ named es e
   pub words : length marks ≡ 46
 
+-- both, of the cells named so far in a table of n sectors
 pub record Kept (n : ℕ) (es : List Entry) (cells marks : List ℕ) : Type 0 where
   pub held : Held (Reading.table n es) cells
   pub agrees : Agrees es marks
@@ -54,18 +55,19 @@ Asked s n at marks End = (fuel : ℕ) (es : List Entry) → Agrees es marks → 
 Asked s n at marks (Cell next) =
     ((fuel : ℕ) (es : List Entry) → Agrees es marks → walk (suc fuel) s n es at ≡ walk fuel s n (entryAt s at ∷ es) next) × Names s n at next
 
--- an answer, and on acceptance the cells
+-- the reading is a table of n sectors with k named cells, and the list holds them
 pub record Accepts (o : Reading) (n k : ℕ) (cells : List ℕ) : Type 0 where
   pub es : List Entry
   pub same : o ≡ Reading.table n es
   pub counted : k ≡ length es
   pub held : Held (Reading.table n es) cells
 
+-- what the walk answers at its end, and on acceptance the cells
 abbrev pub Ends : Reading → TableRead → List ℕ → Type 0
 Ends o (Refused q p) cells = o ≡ Reading.refused q p
 Ends o (Read n k) cells = Accepts o n k cells
 
--- the first record
+-- what the first record is answered: a refusal, or n, from which the walk goes on at offset 2
 abbrev pub Opened : List ℕ → TableRead → Type 0
 Opened s (Refused q p) = reading s ≡ Reading.refused q p
 Opened s (Read n k) = (reading s ≡ walk (length s) s n [] 2) × (n ≤ 40) × (2 ≤ length s)

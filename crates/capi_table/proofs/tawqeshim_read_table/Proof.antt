@@ -1,8 +1,8 @@
--- `capi::tawqeshim_read_table` meets its contract. Assumes nothing.
+-- `capi_table::tawqeshim_read_table` meets its contract. Assumes nothing.
 use mathlib.Core.Path.{sym}
 use borrow.Author.Needs.{needs}
-use Rattle.capi.proofs.tawqeshim_read_table.Statement.{statement}
-use Rattle.capi.proofs.tawqeshim_read_table.Tie as tie
+use Rattle.capi_table.proofs.tawqeshim_read_table.Statement.{statement}
+use Rattle.capi_table.proofs.tawqeshim_read_table.Tie as tie
 
 returns : tie.Need-returns
 returns c =
