@@ -10,7 +10,7 @@ use borrow.Author.Count.{below-more}
 use borrow.Author.Tests.{eq-eqb, eqb-true}
 use lib.Dec.{eqb}
 use lib.ListN.{length, set, replicate, take, length-replicate, getD-replicate}
-use lib.Seq.{ext-getD, getD-set-same, getD-set-other, lt-length-set, length-take-le, getD-take}
+use lib.Seq.{ext-getD, getD-set-same, getD-set-other, length-take-le, getD-take}
 use Rattle.model.specs.Numbers.{first, all, tabulate, cell, same}
 use Rattle.model.specs.Promises.{Equal}
 use Rattle.theory.proofs.Sums.{upto}
@@ -40,13 +40,6 @@ over-none l f = (agree-none l f, λ k h. refl)
 pub over-set : (l : List ℕ) (i : ℕ) (f : ℕ → ℕ) (m : List ℕ) (v : ℕ) → i < length l → v ≡ f i → Over l i f m → Over (set l i v) (i + 1) f m
 over-set l i f m v h e (before, rest) =
     (agree-set l i f v h e before, λ k g. let lt : i < k = omega arith in getD-set-other l i k v 0 (λ p. ne-of-lt lt (sym p)) ∙ rest k (omega arith))
-
--- two places at once
-pub over-two : (l : List ℕ) (i : ℕ) (f : ℕ → ℕ) (m : List ℕ) → i + 1 < length l → Over l i f m → Over (set (set l i (f i)) (i + 1) (f (i + 1))) (i + 2) f m
-over-two l i f m h o =
-    let two : i + 2 ≡ i + 1 + 1 = omega arith in
-    subst⁻¹ (λ (k : ℕ). Over (set (set l i (f i)) (i + 1) (f (i + 1))) k f m) two
-    (over-set (set l i (f i)) (i + 1) f m (f (i + 1)) (lt-length-set l i (f i) h) refl (over-set l i f m (f i) (omega arith) refl o))
 
 pub length-tabulate : (n : ℕ) (f : ℕ → ℕ) → length (tabulate n f) ≡ n
 length-tabulate zero f = refl

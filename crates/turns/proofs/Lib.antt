@@ -1,2 +1,2 @@
 -- Laws that the proofs of these functions share.
-pub mod Narrowing
+pub mod Moves

@@ -1,62 +1,15 @@
 // One round of a settling loop, over lent slices.
-use cells::weighted_sum;
+use sums::add_rises;
 ghost use mathlib.Core.Bool.{true};
 ghost use mathlib.Core.Path.{_≡_};
 ghost use Prim.Native.Nat.{ℕ, _+_, _*_, _-_, _<_, _≤_};
 ghost use lib.Dec.{eqb};
-ghost use lib.ListN.{length, set};
+ghost use lib.ListN.{length};
 ghost use Rattle.model.specs.Numbers.{at, cell, same, tabulate};
 ghost use Rattle.model.specs.Rounds.{round, weighted};
 ghost use Rattle.model.specs.Checks.{demandLimit};
 ghost use Rattle.theory.specs.Bounds.{sumLimit, Narrow};
-ghost use Rattle.theory.specs.Rises.{raised, advanced, Carried};
-
-// The same rise; where rises are narrow the compiler is told so.
-fn narrowed(narrow: bool, rise: u64) -> u64
-    requires { ⌜ (narrow ≡ true → rise < 4294967296) ⌝ }
-    ensures { λ r. ⌜ r ≡ rise ⌝ }
-{
-    if narrow {
-        return rise % 4_294_967_296;
-    }
-    rise
-}
-
-// Adds the weighted sums of the rises along rows i and i + 1, in one pass over the rises. Narrow coefficients take one multiplication of 32
-// bits where the rises are narrow too, and two where they are not.
-fn add_pair(n: usize, d: &[u64], narrow: bool, rises: &[u64], i: usize, sums: &mut [u64])
-    requires { ⌜ (length (now d) ≡ n * n) × (length (now rises) ≡ n) × (length (now sums) ≡ n) × (i + 1 < n) ⌝ }
-    requires { ⌜ Narrow (now d) × (narrow ≡ true → Narrow (now rises)) ⌝ }
-    requires { ⌜ (raised n (now d) (now rises) (now sums) i ≤ sumLimit) × (raised n (now d) (now rises) (now sums) (i + 1) ≤ sumLimit) ⌝ }
-    ensures { λ _. ⌜ now (sums .exit) ≡ set (set (now (sums .entry)) i (raised n (now (d .entry)) (now (rises .entry)) (now (sums .entry)) i)) (i + 1) (raised n (now (d .entry)) (now (rises .entry)) (now (sums .entry)) (i + 1)) ⌝ }
-{
-    let mut first: u64 = 0;
-    let mut second: u64 = 0;
-    for j in 0..n {
-        let rise = narrowed(narrow, rises[j]);
-        first += d[i * n + j] % 4_294_967_296 * rise;
-        second += d[(i + 1) * n + j] % 4_294_967_296 * rise;
-    }
-    sums[i] += first;
-    sums[i + 1] += second;
-}
-
-// Adds the weighted sums of the rises along every row.
-fn add_rises(n: usize, d: &[u64], narrow: bool, rises: &[u64], sums: &mut [u64])
-    requires { ⌜ (length (now d) ≡ n * n) × (length (now rises) ≡ n) × (length (now sums) ≡ n) ⌝ }
-    requires { ⌜ Narrow (now d) × (narrow ≡ true → Narrow (now rises)) ⌝ }
-    requires { ⌜ ((i : ℕ) → i < n → raised n (now d) (now rises) (now sums) i ≤ sumLimit) ⌝ }
-    ensures { λ _. ⌜ now (sums .exit) ≡ tabulate n (raised n (now (d .entry)) (now (rises .entry)) (now (sums .entry))) ⌝ }
-{
-    let mut i: usize = 0;
-    while i + 1 < n {
-        add_pair(n, d, narrow, rises, i, sums);
-        i += 2;
-    }
-    if i < n {
-        sums[i] += weighted_sum(n, d, rises, i);
-    }
-}
+ghost use Rattle.theory.specs.Rises.{advanced, Carried};
 
 // Every sector's start and what industry takes of it, into `out`, and by how much it rose. Answers how far sectors moved: 0 where none did, else
 // a number that is nowhere below a rise.

@@ -12,7 +12,7 @@ use lib.ListN.{length, length-set}
 use Rattle.model.specs.Numbers.{cell, same, tabulate}
 use Rattle.theory.specs.Rises.{advanced}
 use Rattle.theory.proofs.Lists.{Agree, agree-none, agree-set, Over, over-none, over-set, tabulated, cell-tabulate, same-more}
-use Rattle.turns.proofs.Narrowing.{le-or-left, le-or-right, or-none, rise-none}
+use Rattle.turns.proofs.Moves.{le-or-left, le-or-right, or-none, rise-none}
 use Rattle.turns.proofs.advance.Statement.{statement}
 use Rattle.turns.proofs.advance.Tie as tie
 

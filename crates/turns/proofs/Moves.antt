@@ -1,18 +1,11 @@
--- Why narrow cells are their own remainders, and what `or` says of the numbers it takes in. Assumes nothing.
+-- What `or` says of the rises that it takes in. Assumes nothing.
 use mathlib.Core.Bool.{Bool, true, false, _&&_}
-use mathlib.Core.List.{List}
-use mathlib.Core.Path.{_≡_, refl, ap, ap₂, subst, subst⁻¹}
-use Prim.Native.Nat.{ℕ, _+_, _*_, _-_, _%_, _≤_, _<_}
-use native.Mathlib.Nat.{mod-eq-of-lt}
+use mathlib.Core.Path.{_≡_, refl, ap, subst}
+use Prim.Native.Nat.{ℕ, _-_, _≤_}
 use native.Mathlib.Omega.{arith}
 use borrow.Author.Tests.{eqb-true, eqb-false, eq-eqb, ne-eqb}
 use lib.Bits.{bitOr, or-add-and, and-le-r, or-comm}
 use lib.Dec.{eqb}
-use lib.ListN.{length}
-use Rattle.model.specs.Numbers.{cell, at}
-use Rattle.model.specs.Rounds.{product}
-use Rattle.theory.specs.Bounds.{Narrow}
-use Rattle.theory.proofs.Sums.{cell-in}
 
 -- `or` of two numbers is at least each of them
 pub le-or-left : (a b : ℕ) → a ≤ bitOr a b
@@ -36,8 +29,3 @@ rise-none a o h = split (eqb a o) refl
     split : (t : Bool) → eqb a o ≡ t → eqb (a - o) 0 ≡ t
     split true e = eq-eqb (a - o) 0 (omega (arith, eqb-true a o e))
     split false e = ne-eqb (a - o) 0 (λ z. eqb-false a o e (omega (arith, z, h)))
-
--- a term of a weighted sum, whose coefficient is taken as its remainder
-pub term : (n : ℕ) (d x : List ℕ) (i j : ℕ) {a : ℕ} → length d ≡ n * n → Narrow d → i < n → j < n → a ≡ cell x j
-    → at n d i j % 4294967296 * a ≡ product (at n d) (cell x) i j
-term n d x i j e low h l f = ap₂ _*_ (mod-eq-of-lt (low (i * n + j) (subst⁻¹ (λ (k : ℕ). i * n + j < k) e (cell-in n i j h l)))) f

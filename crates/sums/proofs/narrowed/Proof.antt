@@ -1,8 +1,8 @@
--- `turns::narrowed` meets its contract: an amount below 2^32 is its own remainder. Assumes nothing.
+-- `sums::narrowed` meets its contract: an amount below 2^32 is its own remainder. Assumes nothing.
 use native.Mathlib.Nat.{mod-eq-of-lt}
 use borrow.Author.Needs.{needs}
-use Rattle.turns.proofs.narrowed.Statement.{statement}
-use Rattle.turns.proofs.narrowed.Tie as tie
+use Rattle.sums.proofs.narrowed.Statement.{statement}
+use Rattle.sums.proofs.narrowed.Tie as tie
 
 returns : tie.Need-returns
 returns c = mod-eq-of-lt (c .before .pre (c .if1 .taken))
