@@ -40,10 +40,10 @@ written-set l i k f m v h e (part, before, rest) = (
     new g = getD-set-same l (i + k) v 0 h ∙ e
 
 -- the same part again
-pub written-again : (l s : List ℕ) (i k : ℕ) {f g e : ℕ → ℕ} (m : List ℕ) → ((c : ℕ) → c < i + k → cell s c ≡ f c → g c ≡ e c)
+pub written-again : (l s : List ℕ) (i k : ℕ) {f g e : ℕ → ℕ} (m : List ℕ) → ((c : ℕ) → cell s c ≡ f c → g c ≡ e c)
     → Written s i k f m → Written l i k g s → Written l i k e m
 written-again l s i k m same (part, before, rest) (part', before', rest') = (
-  λ c h lt. part' c h lt ∙ same c lt (part c h lt),
+  λ c h lt. part' c h lt ∙ same c (part c h lt),
   λ c lt. before' c lt ∙ before c lt,
   λ c h. rest' c h ∙ rest c h,
 )

@@ -80,7 +80,7 @@ loop-again c =
       w .kept .1 .1 .1 .1 .1 .0 ∙ l .inv .1,
       written-again (w .last .1 .1 .1 .1 .1 .0) (l .sums) (a .i) 4
           {f = partly p (l .j)} {g = λ k. cell (l .sums) k + more q k} {e = partly p (l .j + 1)} (a .sums .now)
-          (λ k h e. omega (arith, e, term q k, sum-more (terms p k) (l .j) (sum (l .j) (terms p k)) refl)) (l .inv .2) (w .ensures),
+          (λ k e. omega (arith, e, term q k, sum-more (terms p k) (l .j) (sum (l .j) (terms p k)) refl)) (l .inv .2) (w .ensures),
     )
 
 returns : tie.Need-returns Inv-loop μ-loop
