@@ -194,12 +194,15 @@ void tawqeshim_read_table(
  * Reads a table file of any bytes and writes the sheet that is printed of it, as the program roadsheet does: demand, production with 1,400
  * rounds allowed, and induced value added and imports, a line a sector; or the one line `refused`, a number and a place.
  *
- * Gives how many bytes the page has, at most out_length, and the page from the start of out. Bytes after it keep what they held.
- * Where out has fewer than 2,851 bytes, which hold every page, gives 0 and writes nothing. It has no number.
+ * Asks 2: out has exactly 2,851 bytes, which hold every page.
+ * Gives in *length how many bytes the page has, and in out the page from the start; every byte after it is 0. A page of `refused` is a page:
+ * its number and place stand in its text, and *number is 0.
+ * A refusal sets every byte of out to 0.
  */
-size_t tawqeshim_page(
+void tawqeshim_page(
     const uint8_t *file, size_t file_length,
-    uint8_t *out, size_t out_length);
+    uint8_t *out, size_t out_length,
+    uint8_t *number, size_t *place, size_t *length);
 
 #ifdef __cplusplus
 }

@@ -88,9 +88,7 @@ def _load():
     if not os.path.exists(path):
         raise ImportError(f"no library at {path}: scripts/shared-library builds it, and TAWQESHIM_LIBRARY may name another")
     # A PyDLL keeps other threads of Python waiting, so none changes a buffer during a call. No call takes long.
-    library = ctypes.PyDLL(path)
-    library.tawqeshim_page.restype = ctypes.c_size_t
-    return library
+    return ctypes.PyDLL(path)
 
 
 _LIBRARY = _load()
@@ -329,5 +327,6 @@ def page(file):
     >>> page(b"")
     b'refused 15 0\\n'
     """
-    out = (ctypes.c_uint8 * _PAGE)()
-    return bytes(out[:_call("page", _lent("file", file, "B"), out)])
+    out, length = (ctypes.c_uint8 * _PAGE)(), ctypes.c_size_t()
+    _accept(*_asked("page", _lent("file", file, "B"), out, counts=[length]))
+    return bytes(out[:length.value])

@@ -175,21 +175,20 @@ pub fn by_reference(case: &Case) -> Outcome {
 }
 
 fn page_by_reference(case: &Case) -> Outcome {
-    let mut printed = junk_bytes(case.lent[0]);
-    let mut length = 0;
-    if case.lent[0] >= PAGE_BYTES {
-        let page = reference::page(&case.file);
-        length = page.len();
-        printed[..length].copy_from_slice(&page);
+    let mut printed = vec![0; case.lent[0]];
+    if printed.len() != PAGE_BYTES {
+        return Outcome { number: 2, place: 0, counts: [0, 0], cells: vec![], printed };
     }
-    Outcome { number: 0, place: 0, counts: [length, 0], cells: vec![], printed }
+    let page = reference::page(&case.file);
+    printed[..page.len()].copy_from_slice(&page);
+    Outcome { number: 0, place: 0, counts: [page.len(), 0], cells: vec![], printed }
 }
 
 /// The number to count a case under: the outcome's, or what a row or a page shows.
 pub fn number_seen(case: &Case, outcome: &Outcome) -> u8 {
     match case.call {
         Call::Row => u8::from(outcome.counts[1] == 0),
-        Call::Page if outcome.counts[0] == 0 => 2,
+        Call::Page if outcome.number != 0 => outcome.number,
         Call::Page => {
             let page = String::from_utf8_lossy(&outcome.printed[..outcome.counts[0]]);
             let mut words = page.split_whitespace();
@@ -299,7 +298,10 @@ extern "C" {
     fn tawqeshim_page(
         file: *const u8, file_length: usize,
         out: *mut u8, out_length: usize,
-    ) -> usize;
+        number: *mut u8,
+        place: *mut usize,
+        length: *mut usize,
+    );
 }
 
 /// Cells kept on both sides of every lent slice; a call must leave them alone.
@@ -406,7 +408,10 @@ fn page_by_library(case: &Case, file: &[u8]) -> Result<Outcome, &'static str> {
     out.extend(junk_bytes(length));
     out.extend([0xa5; GUARD]);
     let start = out[GUARD..].as_mut_ptr();
-    let written = unsafe { tawqeshim_page(file.as_ptr(), file.len(), start, length) };
+    let (mut number, mut place, mut written) = (0xa5, 0xa5, 0xa5);
+    unsafe {
+        tawqeshim_page(file.as_ptr(), file.len(), start, length, &mut number, &mut place, &mut written);
+    }
     if file != case.file {
         return Err("an input changed");
     }
@@ -415,5 +420,5 @@ fn page_by_library(case: &Case, file: &[u8]) -> Result<Outcome, &'static str> {
     if !kept {
         return Err("a byte beyond the lent slice changed");
     }
-    Ok(Outcome { number: 0, place: 0, counts: [written, 0], cells: vec![], printed })
+    Ok(Outcome { number, place, counts: [written, 0], cells: vec![], printed })
 }

@@ -4,22 +4,20 @@ use checks::matrix_within;
 use checks::next_within;
 use model::Answer;
 ghost use mathlib.Core.List.{List, [], _∷_, _++_};
-ghost use mathlib.Core.Bool.{true};
 ghost use mathlib.Core.Path.{_≡_};
 ghost use Prim.Native.Nat.{ℕ, _*_, _<_, _≤_};
-ghost use lib.Dec.{eqb};
 ghost use lib.ListN.{length};
-ghost use Rattle.model.specs.Numbers.{all, cell};
+ghost use Rattle.model.specs.Numbers.{cell};
 ghost use Rattle.model.specs.Table.{absorption, tableOf};
 ghost use Rattle.model.specs.Checks.{amountLimit, balanceChecks, columnBalances, importsCovered, lengths, report, rowBalances, size, tableAmounts, verdict};
-ghost use Rattle.model.specs.Calls.{tableChecks};
+ghost use Rattle.theory.specs.Slices.{Columns, Each};
 ghost use Rattle.theory.specs.Tables.{TableAmounts, TableSizes};
 
 // Domestic need of sector i: what all sectors buy of it, and final demand.
 pub fn need_of(n: usize, x: &[u64], final_demand: &[u64], i: usize) -> u64
     requires { ⌜ (n ≤ 40) × (i < n) × (length (now x) ≡ n * n) × (length (now «final_demand») ≡ n) ⌝ }
-    requires { ⌜ ((k : ℕ) → k < n * n → cell (now x) k ≤ amountLimit) ⌝ }
-    requires { ⌜ ((k : ℕ) → k < n → cell (now «final_demand») k ≤ amountLimit) ⌝ }
+    requires { ⌜ ((k : ℕ) → cell (now x) k ≤ amountLimit) ⌝ }
+    requires { ⌜ ((k : ℕ) → cell (now «final_demand») k ≤ amountLimit) ⌝ }
     ensures { λ r. ⌜ (r ≡ absorption n (now (x .entry)) (now («final_demand» .entry)) i) × (r ≤ 41000000000) ⌝ }
 {
     let mut sum: u64 = 0;
@@ -29,8 +27,8 @@ pub fn need_of(n: usize, x: &[u64], final_demand: &[u64], i: usize) -> u64
     sum + final_demand[i]
 }
 
-// Question 3 of a table's amounts.
-fn check_amounts(
+// Question 3: is every amount of a table within its limit? Places are counted on through the slices.
+pub fn check_amounts(
     n: usize,
     x: &[u64],
     final_demand: &[u64],
@@ -39,25 +37,29 @@ fn check_amounts(
     value_added: &[u64],
     production: &[u64],
 ) -> Answer
-    requires { ⌜ (n ≤ 40) × (length (now x) ≡ n * n) × (length (now «final_demand») ≡ n) × (length (now exports) ≡ n) × (length (now imports) ≡ n) × (length (now «value_added») ≡ n) × (length (now production) ≡ n) ⌝ }
-    ensures { λ r. ⌜ report r ≡ verdict (tableAmounts (tableOf n (now (x .entry)) (now («final_demand» .entry)) (now (exports .entry)) (now (imports .entry)) (now («value_added» .entry)) (now (production .entry)))) 0 ⌝ }
+    requires { ⌜ length (now x) ≡ n * n ⌝ }
+    ensures { λ r. ⌜ report r ≡ verdict (tableAmounts (tableOf n (now (x .entry)) (now («final_demand» .entry) ∷ now (exports .entry) ∷ now (imports .entry) ∷ now («value_added» .entry) ∷ now (production .entry) ∷ []))) [] ⌝ }
 {
     let limit = 1_000_000_000;
     let flows = matrix_within(n, x, limit);
-    let after = n * n;
-    let demands = next_within(flows, after, limit, final_demand);
-    let abroad = next_within(demands, after + n, limit, exports);
-    let imported = next_within(abroad, after + n + n, limit, imports);
-    let values = next_within(imported, after + n + n + n, limit, value_added);
-    next_within(values, after + n + n + n + n, limit, production)
+    let from_demand = x.len();
+    let demands = next_within(flows, from_demand, limit, final_demand);
+    let from_exports = from_demand + final_demand.len();
+    let abroad = next_within(demands, from_exports, limit, exports);
+    let from_imports = from_exports + exports.len();
+    let imported = next_within(abroad, from_imports, limit, imports);
+    let from_values = from_imports + imports.len();
+    let values = next_within(imported, from_values, limit, value_added);
+    let from_production = from_values + value_added.len();
+    next_within(values, from_production, limit, production)
 }
 
 // Question 4: does every column balance? The column is left at its end.
 fn columns_balance(n: usize, x: &[u64], value_added: &[u64], production: &[u64]) -> Answer
     requires { ⌜ (n ≤ 40) × (length (now x) ≡ n * n) × (length (now «value_added») ≡ n) × (length (now production) ≡ n) ⌝ }
-    requires { ⌜ ((k : ℕ) → k < n * n → cell (now x) k ≤ amountLimit) ⌝ }
-    requires { ⌜ ((k : ℕ) → k < n → cell (now «value_added») k ≤ amountLimit) ⌝ }
-    ensures { λ r. ⌜ report r ≡ verdict (columnBalances (tableOf n (now (x .entry)) [] [] [] (now («value_added» .entry)) (now (production .entry))) ∷ []) 0 ⌝ }
+    requires { ⌜ ((k : ℕ) → cell (now x) k ≤ amountLimit) ⌝ }
+    requires { ⌜ ((k : ℕ) → cell (now «value_added») k ≤ amountLimit) ⌝ }
+    ensures { λ r. ⌜ report r ≡ verdict (columnBalances (tableOf n (now (x .entry)) ([] ∷ [] ∷ [] ∷ now («value_added» .entry) ∷ now (production .entry) ∷ [])) ∷ []) [] ⌝ }
 {
     let mut j = 0;
     'scan: loop {
@@ -88,10 +90,10 @@ fn rows_balance(
     production: &[u64],
 ) -> Answer
     requires { ⌜ (n ≤ 40) × (length (now x) ≡ n * n) × (length (now «final_demand») ≡ n) × (length (now exports) ≡ n) × (length (now imports) ≡ n) × (length (now production) ≡ n) ⌝ }
-    requires { ⌜ ((k : ℕ) → k < n * n → cell (now x) k ≤ amountLimit) ⌝ }
-    requires { ⌜ ((k : ℕ) → k < n → cell (now «final_demand») k ≤ amountLimit) ⌝ }
-    requires { ⌜ ((k : ℕ) → k < n → (cell (now exports) k ≤ amountLimit) × (cell (now imports) k ≤ amountLimit) × (cell (now production) k ≤ amountLimit)) ⌝ }
-    ensures { λ r. ⌜ report r ≡ verdict (rowBalances (tableOf n (now (x .entry)) (now («final_demand» .entry)) (now (exports .entry)) (now (imports .entry)) [] (now (production .entry))) ∷ []) 0 ⌝ }
+    requires { ⌜ ((k : ℕ) → cell (now x) k ≤ amountLimit) ⌝ }
+    requires { ⌜ ((k : ℕ) → cell (now «final_demand») k ≤ amountLimit) ⌝ }
+    requires { ⌜ ((k : ℕ) → (cell (now exports) k ≤ amountLimit) × (cell (now imports) k ≤ amountLimit) × (cell (now production) k ≤ amountLimit)) ⌝ }
+    ensures { λ r. ⌜ report r ≡ verdict (rowBalances (tableOf n (now (x .entry)) (now («final_demand» .entry) ∷ now (exports .entry) ∷ now (imports .entry) ∷ [] ∷ now (production .entry) ∷ [])) ∷ []) [] ⌝ }
 {
     for i in 0..n {
         let need = need_of(n, x, final_demand, i);
@@ -108,9 +110,9 @@ fn rows_balance(
 // Question 6: are a sector's imports at most its domestic need?
 fn imports_covered(n: usize, x: &[u64], final_demand: &[u64], imports: &[u64]) -> Answer
     requires { ⌜ (n ≤ 40) × (length (now x) ≡ n * n) × (length (now «final_demand») ≡ n) × (length (now imports) ≡ n) ⌝ }
-    requires { ⌜ ((k : ℕ) → k < n * n → cell (now x) k ≤ amountLimit) ⌝ }
-    requires { ⌜ ((k : ℕ) → k < n → cell (now «final_demand») k ≤ amountLimit) ⌝ }
-    ensures { λ r. ⌜ report r ≡ verdict (importsCovered (tableOf n (now (x .entry)) (now («final_demand» .entry)) [] (now (imports .entry)) [] []) ∷ []) 0 ⌝ }
+    requires { ⌜ ((k : ℕ) → cell (now x) k ≤ amountLimit) ⌝ }
+    requires { ⌜ ((k : ℕ) → cell (now «final_demand») k ≤ amountLimit) ⌝ }
+    ensures { λ r. ⌜ report r ≡ verdict (importsCovered (tableOf n (now (x .entry)) (now («final_demand» .entry) ∷ [] ∷ now (imports .entry) ∷ [])) ∷ []) [] ⌝ }
 {
     for i in 0..n {
         let need = need_of(n, x, final_demand, i);
@@ -134,9 +136,9 @@ fn check_balances(
     value_added: &[u64],
     production: &[u64],
 ) -> Answer
-    requires { ⌜ TableSizes (tableOf n (now x) (now «final_demand») (now exports) (now imports) (now «value_added») (now production)) ⌝ }
-    requires { ⌜ TableAmounts (tableOf n (now x) (now «final_demand») (now exports) (now imports) (now «value_added») (now production)) ⌝ }
-    ensures { λ r. ⌜ report r ≡ verdict (balanceChecks (tableOf n (now (x .entry)) (now («final_demand» .entry)) (now (exports .entry)) (now (imports .entry)) (now («value_added» .entry)) (now (production .entry)))) 0 ⌝ }
+    requires { ⌜ TableSizes (tableOf n (now x) (now «final_demand» ∷ now exports ∷ now imports ∷ now «value_added» ∷ now production ∷ [])) ⌝ }
+    requires { ⌜ TableAmounts (tableOf n (now x) (now «final_demand» ∷ now exports ∷ now imports ∷ now «value_added» ∷ now production ∷ [])) ⌝ }
+    ensures { λ r. ⌜ report r ≡ verdict (balanceChecks (tableOf n (now (x .entry)) (now («final_demand» .entry) ∷ now (exports .entry) ∷ now (imports .entry) ∷ now («value_added» .entry) ∷ now (production .entry) ∷ []))) [] ⌝ }
 {
     let columns = columns_balance(n, x, value_added, production);
     if let Answer::Refused { number, place } = columns {
@@ -149,8 +151,8 @@ fn check_balances(
     imports_covered(n, x, final_demand, imports)
 }
 
-// Questions 1 to 3.
-fn check_inputs(
+// Questions 3 to 6, of a table whose slices have their lengths.
+pub fn check_contents(
     n: usize,
     x: &[u64],
     final_demand: &[u64],
@@ -158,18 +160,25 @@ fn check_inputs(
     imports: &[u64],
     value_added: &[u64],
     production: &[u64],
-    matrices: &[usize],
-    lent: &[usize],
 ) -> Answer
-    requires { ⌜ (all (eqb (n * n)) (now matrices) ≡ true → length (now x) ≡ n * n) ⌝ }
-    requires { ⌜ (all (eqb n) (now lent) ≡ true → (length (now «final_demand») ≡ n) × (length (now exports) ≡ n) × (length (now imports) ≡ n) × (length (now «value_added») ≡ n) × (length (now production) ≡ n)) ⌝ }
-    ensures { λ r. ⌜ report r ≡ verdict (size n ∷ lengths n (now (matrices .entry)) (now (lent .entry)) ∷ tableAmounts (tableOf n (now (x .entry)) (now («final_demand» .entry)) (now (exports .entry)) (now (imports .entry)) (now («value_added» .entry)) (now (production .entry)))) 0 ⌝ }
+    requires { ⌜ TableSizes (tableOf n (now x) (now «final_demand» ∷ now exports ∷ now imports ∷ now «value_added» ∷ now production ∷ [])) ⌝ }
+    ensures { λ r. ⌜ (
+        let t = tableOf n (now (x .entry)) (now («final_demand» .entry) ∷ now (exports .entry) ∷ now (imports .entry) ∷ now («value_added» .entry) ∷ now (production .entry) ∷ []) in
+        report r ≡ verdict (tableAmounts t ++ balanceChecks t) []) ⌝ }
 {
-    let sizes = check_sizes(n, matrices, lent);
-    if let Answer::Refused { number, place } = sizes {
+    let amounts = check_amounts(
+        n,
+        x,
+        final_demand,
+        exports,
+        imports,
+        value_added,
+        production,
+    );
+    if let Answer::Refused { number, place } = amounts {
         return Answer::Refused { number, place };
     }
-    check_amounts(
+    check_balances(
         n,
         x,
         final_demand,
@@ -180,7 +189,7 @@ fn check_inputs(
     )
 }
 
-// Questions 1 to 6. The outputs' lengths come as two lists, of the matrices a and d, and of the columns v, m and f.
+// Questions 1 to 6. The lengths of the table's own slices are among those of the matrices and of the lent slices.
 pub fn check_table(
     n: usize,
     x: &[u64],
@@ -189,40 +198,20 @@ pub fn check_table(
     imports: &[u64],
     value_added: &[u64],
     production: &[u64],
-    a_len: usize,
-    v_len: usize,
-    m_len: usize,
-    d_len: usize,
-    f_len: usize,
+    matrices: &[usize],
+    lent: &[usize],
 ) -> Answer
-    ensures { λ r. ⌜ report r ≡ verdict (tableChecks (tableOf n (now (x .entry)) (now («final_demand» .entry)) (now (exports .entry)) (now (imports .entry)) (now («value_added» .entry)) (now (production .entry))) («a_len» ∷ «d_len» ∷ []) («v_len» ∷ «m_len» ∷ «f_len» ∷ [])) 0 ⌝ }
+    requires { ⌜ (Each (n * n) (now matrices) → length (now x) ≡ n * n) ⌝ }
+    requires { ⌜ (Each n (now lent) → Columns n (now «final_demand» ∷ now exports ∷ now imports ∷ now «value_added» ∷ now production ∷ [])) ⌝ }
+    ensures { λ r. ⌜ (
+        let t = tableOf n (now (x .entry)) (now («final_demand» .entry) ∷ now (exports .entry) ∷ now (imports .entry) ∷ now («value_added» .entry) ∷ now (production .entry) ∷ []) in
+        report r ≡ verdict (size n ∷ lengths n (now (matrices .entry)) (now (lent .entry)) ∷ tableAmounts t ++ balanceChecks t) []) ⌝ }
 {
-    let matrices = [x.len(), a_len, d_len];
-    let lent = [
-        final_demand.len(),
-        exports.len(),
-        imports.len(),
-        value_added.len(),
-        production.len(),
-        v_len,
-        m_len,
-        f_len,
-    ];
-    let inputs = check_inputs(
-        n,
-        x,
-        final_demand,
-        exports,
-        imports,
-        value_added,
-        production,
-        &matrices,
-        &lent,
-    );
-    if let Answer::Refused { number, place } = inputs {
+    let sizes = check_sizes(n, matrices, lent);
+    if let Answer::Refused { number, place } = sizes {
         return Answer::Refused { number, place };
     }
-    check_balances(
+    check_contents(
         n,
         x,
         final_demand,

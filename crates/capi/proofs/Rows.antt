@@ -27,11 +27,12 @@ module _ (n : ℕ) (d : List ℕ) (i : ℕ) where
   module _ {s : List ℕ} (e : s ≡ rowSlice n d i) where
     pub told-none : length s ≡ 0 → ToldRow n d i 0 (length s)
     told-none none =
-        let empty = drop-of-length-le s {i = 0} (omega (arith, none)) in (ap length e, rw (eq-eqb (length s) 0 none) refl, rw none (sym empty ∙ e))
+        let empty = drop-of-length-le s {i = 0} (omega (arith, none)) in
+        record { cells = ap length e; begins = rw (eq-eqb (length s) 0 none) refl; part = rw none (sym empty ∙ e) }
 
     pub told-some : (length s ≡ 0 → ⊥) → Row n (length d) i × ToldRow n d i (i * n) (length s)
     told-some some =
         let t = inside (λ none. some (ap length e ∙ none)) in
         let whole = length-take-le n (drop (i * n) d) (omega (arith, t .0, length-drop (i * n) d)) in
         let count = ap length (e ∙ t .1) ∙ whole in
-        (t .0, (ap length e, rw (ne-eqb (length s) 0 some) refl, rw count (sym (t .1))))
+        (t .0, record { cells = ap length e; begins = rw (ne-eqb (length s) 0 some) refl; part = rw count (sym (t .1)) })

@@ -1,4 +1,5 @@
-// The calls for C that take sheets. Each does what the call of its name does; an answer comes through `&mut` numbers, where a refusal's counts are 0.
+// The calls for C that take sheets. Each promises what the call of its name promises, of the answer that comes through `&mut` numbers, where a
+// refusal's counts are 0.
 use implied::implied_demand;
 use induced::induced;
 use multipliers::inverse;
@@ -7,17 +8,10 @@ use rounds::price;
 use rounds::production;
 use tell::tell_answer;
 use tell::tell_outcome;
-ghost use mathlib.Core.Bool.{true};
-ghost use mathlib.Core.List.{List, [], _∷_};
-ghost use mathlib.Core.Path.{_≡_};
-ghost use Prim.Native.Nat.{ℕ};
-ghost use lib.ListN.{length, replicate};
-ghost use Rattle.model.specs.Numbers.{at, transposed};
-ghost use Rattle.model.specs.Rounds.{dispersion, impliedDemand, inducedImports, inducedValueAdded, inverse, settled};
-ghost use Rattle.model.specs.Checks.{accepts, output};
-ghost use Rattle.model.specs.Calls.{impliedReport, inducedReport, inverseReport, priceReport, productionReport};
-ghost use Rattle.model.specs.Promises.{Accurate, AccuratePrices, Distinguishes, NotAbove, Returns};
-ghost use Rattle.tell.specs.Told.{Told, ToldRounds, ToldRow};
+ghost use mathlib.Core.List.{[], _∷_};
+ghost use Rattle.model.specs.Checks.{reportTold};
+ghost use Rattle.model.specs.Contracts.{Implied, Induced, Inverted, Priced, Produced};
+ghost use Rattle.tell.specs.Told.{ToldRow};
 
 // Production from a demand for domestic goods. Asks 1, 2, 7, 8, 9.
 #[no_mangle]
@@ -32,13 +26,7 @@ pub extern "C" fn tawqeshim_production(
     place: &mut usize,
     rounds: &mut u32,
 )
-    ensures { λ _. ⌜ (
-        let r = productionReport n (now (d .entry)) (now (f .entry)) budget (length (now (out .entry)) ∷ length (now (work .entry)) ∷ []) in
-        ToldRounds r (now (number .exit)) (now (place .exit)) (now (rounds .exit))
-        × (now (out .exit) ≡ output r (length (now (out .entry))) (settled n (at n (now (d .entry))) (now (f .entry)) budget))
-        × (now (work .exit) ≡ replicate (length (now (work .entry))) 0)
-        × (r .accepted ≡ true → Distinguishes n (now (d .entry)) (now (f .entry)) (now (out .exit)))
-        × (r .accepted ≡ true → Accurate n (now (d .entry)) (now (f .entry)) (now (out .exit)))) ⌝ }
+    ensures { λ _. ⌜ Produced n (now (d .entry)) (now (f .entry)) budget (now (out .entry)) (now (work .entry)) (reportTold (now (number .exit)) (now (place .exit)) (now (rounds .exit) ∷ [])) (now (out .exit)) (now (work .exit)) ⌝ }
 {
     let outcome = production(n, d, f, budget, out, work);
     tell_outcome(outcome, number, place, rounds);
@@ -57,12 +45,7 @@ pub extern "C" fn tawqeshim_price(
     place: &mut usize,
     rounds: &mut u32,
 )
-    ensures { λ _. ⌜ (
-        let r = priceReport n (now (d .entry)) (now (w .entry)) budget (length (now (out .entry)) ∷ length (now (work .entry)) ∷ []) in
-        ToldRounds r (now (number .exit)) (now (place .exit)) (now (rounds .exit))
-        × (now (out .exit) ≡ output r (length (now (out .entry))) (settled n (transposed (at n (now (d .entry)))) (now (w .entry)) budget))
-        × (now (work .exit) ≡ replicate (length (now (work .entry))) 0)
-        × (r .accepted ≡ true → AccuratePrices n (now (d .entry)) (now (w .entry)) (now (out .exit)))) ⌝ }
+    ensures { λ _. ⌜ Priced n (now (d .entry)) (now (w .entry)) budget (now (out .entry)) (now (work .entry)) (reportTold (now (number .exit)) (now (place .exit)) (now (rounds .exit) ∷ [])) (now (out .exit)) (now (work .exit)) ⌝ }
 {
     let outcome = price(n, d, w, budget, out, work);
     tell_outcome(outcome, number, place, rounds);
@@ -78,13 +61,7 @@ pub extern "C" fn tawqeshim_implied_demand(
     number: &mut u8,
     place: &mut usize,
 )
-    ensures { λ _. ⌜ (
-        let r = impliedReport n (now (d .entry)) (now (production .entry)) (length (now (out .entry)) ∷ []) in
-        Told r (now (number .exit)) (now (place .exit))
-        × (now (out .exit) ≡ output r (length (now (out .entry))) (impliedDemand n (at n (now (d .entry))) (now (production .entry))))
-        × (r .accepted ≡ true → Returns n (now (d .entry)) (now (production .entry)) (now (out .exit)))
-        × (r .accepted ≡ true → NotAbove n (now (d .entry)) (now (production .entry)) (now (out .exit)))
-        × ((f : List ℕ) (budget : ℕ) (lent : List ℕ) → productionReport n (now (d .entry)) f budget lent .accepted ≡ true → now (production .entry) ≡ settled n (at n (now (d .entry))) f budget → length (now (out .entry)) ≡ n → (r ≡ accepts 0) × (now (out .exit) ≡ f))) ⌝ }
+    ensures { λ _. ⌜ Implied n (now (d .entry)) (now (production .entry)) (now (out .entry)) (reportTold (now (number .exit)) (now (place .exit)) []) (now (out .exit)) ⌝ }
 {
     let answer = implied_demand(n, d, production, out);
     tell_answer(answer, number, place);
@@ -104,11 +81,7 @@ pub extern "C" fn tawqeshim_induced(
     number: &mut u8,
     place: &mut usize,
 )
-    ensures { λ _. ⌜ (
-        let r = inducedReport n (now (a .entry)) (now (m .entry)) (now (v .entry)) (now («final_demand» .entry)) (now (production .entry)) (length (now (value .entry)) ∷ length (now (imports .entry)) ∷ []) in
-        Told r (now (number .exit)) (now (place .exit))
-        × (now (value .exit) ≡ output r (length (now (value .entry))) (inducedValueAdded n (now (v .entry)) (now (production .entry))))
-        × (now (imports .exit) ≡ output r (length (now (imports .entry))) (inducedImports n (at n (now (a .entry))) (now (m .entry)) (now («final_demand» .entry)) (now (production .entry))))) ⌝ }
+    ensures { λ _. ⌜ Induced n (now (a .entry)) (now (m .entry)) (now (v .entry)) (now («final_demand» .entry)) (now (production .entry)) (now (value .entry)) (now (imports .entry)) (reportTold (now (number .exit)) (now (place .exit)) []) (now (value .exit)) (now (imports .exit)) ⌝ }
 {
     let answer = induced(n, a, m, v, final_demand, production, value, imports);
     tell_answer(answer, number, place);
@@ -127,13 +100,7 @@ pub extern "C" fn tawqeshim_inverse(
     place: &mut usize,
     rounds: &mut u32,
 )
-    ensures { λ _. ⌜ (
-        let r = inverseReport n (now (d .entry)) budget (length (now (sheet .entry)) ∷ []) (length (now (power .entry)) ∷ length (now (sensitivity .entry)) ∷ []) in
-        let z = inverse n (now (d .entry)) budget in
-        ToldRounds r (now (number .exit)) (now (place .exit)) (now (rounds .exit))
-        × (now (sheet .exit) ≡ output r (length (now (sheet .entry))) z)
-        × (now (power .exit) ≡ output r (length (now (power .entry))) (dispersion n (at n z)))
-        × (now (sensitivity .exit) ≡ output r (length (now (sensitivity .entry))) (dispersion n (transposed (at n z))))) ⌝ }
+    ensures { λ _. ⌜ Inverted n (now (d .entry)) budget (now (sheet .entry)) (now (power .entry)) (now (sensitivity .entry)) (reportTold (now (number .exit)) (now (place .exit)) (now (rounds .exit) ∷ [])) (now (sheet .exit)) (now (power .exit)) (now (sensitivity .exit)) ⌝ }
 {
     let outcome = inverse(n, d, budget, sheet, power, sensitivity);
     tell_outcome(outcome, number, place, rounds);

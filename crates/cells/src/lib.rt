@@ -1,11 +1,12 @@
 // Leaves over lent slices. `transposed` gives the direction of a matrix: along its rows, or down its columns.
+use model::Answer;
 ghost use mathlib.Core.Path.{_≡_};
 ghost use Prim.Native.Nat.{ℕ, _*_, _^_, _<_, _≤_};
 ghost use lib.ListN.{length, replicate};
 ghost use Rattle.model.specs.Numbers.{at, cell, oriented, transposed};
 ghost use Rattle.model.specs.Table.{portion, share};
 ghost use Rattle.model.specs.Rounds.{intermediate, weighted};
-ghost use Rattle.model.specs.Checks.{amountLimit};
+ghost use Rattle.model.specs.Checks.{amountLimit, output, report};
 ghost use Rattle.theory.specs.Bounds.{sumLimit};
 
 // Sets every cell to 0.
@@ -17,6 +18,16 @@ pub fn fill_zero(s: &mut [u64])
         s[i] = 0;
         i += 1;
     }
+}
+
+// What a call leaves in an output slice: its cells where the call was accepted, else 0 in every one.
+pub fn output(answer: Answer, s: &mut [u64])
+    ensures { λ _. ⌜ now (s .exit) ≡ output (report answer) (length (now (s .entry))) (now (s .entry)) ⌝ }
+{
+    if let Answer::Accepted = answer {
+        return;
+    }
+    fill_zero(s);
 }
 
 // Copies src, cell by cell.

@@ -1,7 +1,7 @@
 // The checks of document 01 as scans over lent slices. Each answers its number and its first failing place, or that it passes.
 use cells::intermediate_use;
 use model::Answer;
-ghost use mathlib.Core.Bool.{true, _&&_};
+ghost use mathlib.Core.Bool.{_&&_};
 ghost use mathlib.Core.List.{List, [], _∷_, _++_};
 ghost use mathlib.Core.Path.{_≡_};
 ghost use Prim.Native.Nat.{ℕ, _+_, _*_, _^_, _<_, _≤_};
@@ -12,6 +12,7 @@ ghost use Rattle.model.specs.Rounds.{weighted};
 ghost use Rattle.model.specs.Checks.{Check, report, verdict, bounded, size, lengths, columnSums, productionTotal, demandLeft};
 ghost use Rattle.model.specs.Calls.{matrixChecks};
 ghost use Rattle.theory.specs.Bounds.{sumLimit};
+ghost use Rattle.theory.specs.Slices.{Each};
 
 // Question 1: is n from 1 to 40?
 fn is_sized(n: usize) -> bool
@@ -37,7 +38,7 @@ pub fn all_equal(n: usize, lengths: &[usize]) -> bool
 
 // Questions 1 and 2: is n from 1 to 40, and has every lent slice its exact length?
 pub fn check_sizes(n: usize, matrices: &[usize], lent: &[usize]) -> Answer
-    ensures { λ r. ⌜ report r ≡ verdict (size n ∷ lengths n (now (matrices .entry)) (now (lent .entry)) ∷ []) 0 ⌝ }
+    ensures { λ r. ⌜ report r ≡ verdict (size n ∷ lengths n (now (matrices .entry)) (now (lent .entry)) ∷ []) [] ⌝ }
 {
     if !is_sized(n) {
         return Answer::Refused {
@@ -63,7 +64,7 @@ pub fn check_sizes(n: usize, matrices: &[usize], lent: &[usize]) -> Answer
 // Question 3 of a matrix: is every cell within the limit? The place is the cell's, row by row.
 pub fn matrix_within(n: usize, x: &[u64], limit: u64) -> Answer
     requires { ⌜ length (now x) ≡ n * n ⌝ }
-    ensures { λ r. ⌜ report r ≡ verdict (bounded 3 0 limit (now (x .entry)) ∷ []) 0 ⌝ }
+    ensures { λ r. ⌜ report r ≡ verdict (bounded 3 0 limit (now (x .entry)) ∷ []) [] ⌝ }
 {
     let mut i = 0;
     'scan: loop {
@@ -83,7 +84,7 @@ pub fn matrix_within(n: usize, x: &[u64], limit: u64) -> Answer
 // Is every cell of a slice within the limit? The check's number is given, and its places count on from an offset.
 pub fn cells_within(number: u8, offset: usize, limit: u64, s: &[u64]) -> Answer
     requires { ⌜ offset + length (now s) < 2 ^ 64 ⌝ }
-    ensures { λ r. ⌜ report r ≡ verdict (bounded number offset limit (now (s .entry)) ∷ []) 0 ⌝ }
+    ensures { λ r. ⌜ report r ≡ verdict (bounded number offset limit (now (s .entry)) ∷ []) [] ⌝ }
 {
     for i in 0..s.len() {
         if limit < s[i] {
@@ -99,7 +100,7 @@ pub fn cells_within(number: u8, offset: usize, limit: u64, s: &[u64]) -> Answer
 // Question 3 of one slice more, after checks that were answered `so_far`.
 pub fn next_within(so_far: Answer, offset: usize, limit: u64, s: &[u64]) -> Answer
     requires { ⌜ offset + length (now s) < 2 ^ 64 ⌝ }
-    ensures { λ r. ⌜ ((ps : List Check) → report «so_far» ≡ verdict ps 0 → report r ≡ verdict (ps ++ (bounded 3 offset limit (now (s .entry)) ∷ [])) 0) ⌝ }
+    ensures { λ r. ⌜ ((ps : List Check) → report «so_far» ≡ verdict ps [] → report r ≡ verdict (ps ++ (bounded 3 offset limit (now (s .entry)) ∷ [])) []) ⌝ }
 {
     match so_far {
         Answer::Refused { number, place } => Answer::Refused { number, place },
@@ -110,7 +111,7 @@ pub fn next_within(so_far: Answer, offset: usize, limit: u64, s: &[u64]) -> Answ
 // Question 7: is every column sum at most 950,000? A column is left at the first cell that takes its sum over.
 pub fn columns_within(n: usize, d: &[u64]) -> Answer
     requires { ⌜ length (now d) ≡ n * n ⌝ }
-    ensures { λ r. ⌜ report r ≡ verdict (columnSums n (at n (now (d .entry))) ∷ []) 0 ⌝ }
+    ensures { λ r. ⌜ report r ≡ verdict (columnSums n (at n (now (d .entry))) ∷ []) [] ⌝ }
 {
     let mut j = 0;
     'scan: loop {
@@ -134,8 +135,8 @@ pub fn columns_within(n: usize, d: &[u64]) -> Answer
 
 // Questions 1, 2 and 7. The length of d is among those of the matrices.
 pub fn check_matrix(n: usize, d: &[u64], matrices: &[usize], lent: &[usize]) -> Answer
-    requires { ⌜ (all (eqb (n * n)) (now matrices) ≡ true → length (now d) ≡ n * n) ⌝ }
-    ensures { λ r. ⌜ report r ≡ verdict (size n ∷ lengths n (now (matrices .entry)) (now (lent .entry)) ∷ columnSums n (at n (now (d .entry))) ∷ []) 0 ⌝ }
+    requires { ⌜ (Each (n * n) (now matrices) → length (now d) ≡ n * n) ⌝ }
+    ensures { λ r. ⌜ report r ≡ verdict (size n ∷ lengths n (now (matrices .entry)) (now (lent .entry)) ∷ columnSums n (at n (now (d .entry))) ∷ []) [] ⌝ }
 {
     let sizes = check_sizes(n, matrices, lent);
     if let Answer::Refused { number, place } = sizes {
@@ -146,7 +147,7 @@ pub fn check_matrix(n: usize, d: &[u64], matrices: &[usize], lent: &[usize]) -> 
 
 // The same of a call that is lent no other matrix.
 pub fn check_domestic(n: usize, d: &[u64], lent: &[usize]) -> Answer
-    ensures { λ r. ⌜ report r ≡ verdict (matrixChecks n (now (d .entry)) [] (now (lent .entry))) 0 ⌝ }
+    ensures { λ r. ⌜ report r ≡ verdict (matrixChecks n (now (d .entry)) [] (now (lent .entry))) [] ⌝ }
 {
     let matrices = [d.len()];
     check_matrix(n, d, &matrices, lent)
@@ -155,7 +156,7 @@ pub fn check_domestic(n: usize, d: &[u64], lent: &[usize]) -> Answer
 // Question 8 of a given production: is the running total at most 1,600,000,000,000 in every sector?
 pub fn total_within(n: usize, y: &[u64]) -> Answer
     requires { ⌜ length (now y) ≡ n ⌝ }
-    ensures { λ r. ⌜ report r ≡ verdict (productionTotal n (now (y .entry)) ∷ []) 0 ⌝ }
+    ensures { λ r. ⌜ report r ≡ verdict (productionTotal n (now (y .entry)) ∷ []) [] ⌝ }
 {
     let mut total: u64 = 0;
     for i in 0..n {
@@ -175,7 +176,7 @@ pub fn total_within(n: usize, y: &[u64]) -> Answer
 pub fn demand_left(n: usize, d: &[u64], y: &[u64]) -> Answer
     requires { ⌜ (length (now d) ≡ n * n) × (length (now y) ≡ n) ⌝ }
     requires { ⌜ ((i : ℕ) → i < n → weighted n (at n (now d)) (cell (now y)) i ≤ sumLimit) ⌝ }
-    ensures { λ r. ⌜ report r ≡ verdict (demandLeft n (at n (now (d .entry))) (now (y .entry)) ∷ []) 0 ⌝ }
+    ensures { λ r. ⌜ report r ≡ verdict (demandLeft n (at n (now (d .entry))) (now (y .entry)) ∷ []) [] ⌝ }
 {
     for i in 0..n {
         if y[i] < intermediate_use(n, d, y, i) {

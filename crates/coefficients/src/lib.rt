@@ -1,21 +1,63 @@
 // From a table to its coefficients and its demand for domestic goods.
 use balances::check_table;
+use cells::output;
 use model::Answer;
-use sheets::clear;
 use sheets::fill_imports;
 use sheets::fill_inputs;
 use sheets::fill_shares;
 use sheets::finish;
+ghost use mathlib.Core.Bool.{true};
 ghost use mathlib.Core.List.{[], _∷_};
 ghost use mathlib.Core.Path.{_≡_};
 ghost use lib.ListN.{length};
 ghost use Rattle.model.specs.Table.{tableOf};
-ghost use Rattle.model.specs.Checks.{output, report};
-ghost use Rattle.model.specs.Calls.{coefficientsReport, domesticCoefficients, domesticDemands, importCoefficients, inputCoefficients, valueAddedCoefficients};
+ghost use Rattle.model.specs.Checks.{report, verdict};
+ghost use Rattle.model.specs.Contracts.{Derived};
+ghost use Rattle.model.specs.Calls.{coefficientsReport, domesticCoefficients, domesticDemands, importCoefficients, inputCoefficients, tableChecks, valueAddedCoefficients};
 
-// The input coefficients a, value shares v, import shares m, domestic coefficients d and demand for domestic goods f of a table. No result is
-// left open. Columns are F, E, M, V and X of the paper, in its order.
-pub fn coefficients(
+// Questions 1 to 6, with the lengths of the outputs.
+fn check_called(
+    n: usize,
+    x: &[u64],
+    final_demand: &[u64],
+    exports: &[u64],
+    imports: &[u64],
+    value_added: &[u64],
+    production: &[u64],
+    a_len: usize,
+    v_len: usize,
+    m_len: usize,
+    d_len: usize,
+    f_len: usize,
+) -> Answer
+    ensures { λ r. ⌜ report r ≡ verdict (tableChecks (tableOf n (now (x .entry)) (now («final_demand» .entry) ∷ now (exports .entry) ∷ now (imports .entry) ∷ now («value_added» .entry) ∷ now (production .entry) ∷ [])) («a_len» ∷ «d_len» ∷ []) («v_len» ∷ «m_len» ∷ «f_len» ∷ [])) [] ⌝ }
+{
+    let matrices = [x.len(), a_len, d_len];
+    let lent = [
+        final_demand.len(),
+        exports.len(),
+        imports.len(),
+        value_added.len(),
+        production.len(),
+        v_len,
+        m_len,
+        f_len,
+    ];
+    check_table(
+        n,
+        x,
+        final_demand,
+        exports,
+        imports,
+        value_added,
+        production,
+        &matrices,
+        &lent,
+    )
+}
+
+// Questions 1 to 7; where they are passed, the sheets.
+fn fill_sheets(
     n: usize,
     x: &[u64],
     final_demand: &[u64],
@@ -30,16 +72,14 @@ pub fn coefficients(
     f: &mut [u64],
 ) -> Answer
     ensures { λ q. ⌜ (
-        let t = tableOf n (now (x .entry)) (now («final_demand» .entry)) (now (exports .entry)) (now (imports .entry)) (now («value_added» .entry)) (now (production .entry)) in
+        let t = tableOf n (now (x .entry)) (now («final_demand» .entry) ∷ now (exports .entry) ∷ now (imports .entry) ∷ now («value_added» .entry) ∷ now (production .entry) ∷ []) in
         let r = report q in
         (r ≡ coefficientsReport t (length (now (a .entry)) ∷ length (now (d .entry)) ∷ []) (length (now (v .entry)) ∷ length (now (m .entry)) ∷ length (now (f .entry)) ∷ []))
-        × (now (a .exit) ≡ output r (length (now (a .entry))) (inputCoefficients t))
-        × (now (v .exit) ≡ output r (length (now (v .entry))) (valueAddedCoefficients t))
-        × (now (m .exit) ≡ output r (length (now (m .entry))) (importCoefficients t))
-        × (now (d .exit) ≡ output r (length (now (d .entry))) (domesticCoefficients t))
-        × (now (f .exit) ≡ output r (length (now (f .entry))) (domesticDemands t))) ⌝ }
+        × (r .accepted ≡ true →
+        (now (a .exit) ≡ inputCoefficients t) × (now (v .exit) ≡ valueAddedCoefficients t) × (now (m .exit) ≡ importCoefficients t)
+        × (now (d .exit) ≡ domesticCoefficients t) × (now (f .exit) ≡ domesticDemands t))) ⌝ }
 {
-    let checked = check_table(
+    let checked = check_called(
         n,
         x,
         final_demand,
@@ -54,11 +94,52 @@ pub fn coefficients(
         f.len(),
     );
     if let Answer::Refused { number, place } = checked {
-        clear(a, v, m, d, f);
         return Answer::Refused { number, place };
     }
     fill_inputs(n, x, production, a);
     fill_shares(n, value_added, production, v);
     fill_imports(n, x, final_demand, imports, m);
-    finish(n, final_demand, exports, a, v, m, d, f)
+    finish(n, a, m, final_demand, exports, d, f)
+}
+
+// The input coefficients a, value shares v, import shares m, domestic coefficients d and demand for domestic goods f of a table. Columns are
+// F, E, M, V and X of the paper, in its order. What it promises is `Derived`.
+pub fn coefficients(
+    n: usize,
+    x: &[u64],
+    final_demand: &[u64],
+    exports: &[u64],
+    imports: &[u64],
+    value_added: &[u64],
+    production: &[u64],
+    a: &mut [u64],
+    v: &mut [u64],
+    m: &mut [u64],
+    d: &mut [u64],
+    f: &mut [u64],
+) -> Answer
+    ensures { λ r. ⌜ Derived (tableOf n (now (x .entry)) (now («final_demand» .entry) ∷ now (exports .entry) ∷ now (imports .entry) ∷ now («value_added» .entry) ∷ now (production .entry) ∷ []))
+        (now (a .entry)) (now (v .entry)) (now (m .entry)) (now (d .entry)) (now (f .entry)) (report r)
+        (now (a .exit)) (now (v .exit)) (now (m .exit)) (now (d .exit)) (now (f .exit)) ⌝ }
+{
+    let answer = fill_sheets(
+        n,
+        x,
+        final_demand,
+        exports,
+        imports,
+        value_added,
+        production,
+        a,
+        v,
+        m,
+        d,
+        f,
+    );
+    output(answer, a);
+    output(answer, v);
+    output(answer, m);
+    output(answer, d);
+    output(answer, f);
+    answer
 }

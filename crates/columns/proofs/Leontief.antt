@@ -11,16 +11,17 @@ use borrow.Author.Tests.{eqb-true, eqb-false}
 use lib.Dec.{eqb}
 use lib.ListN.{length, set, replicate, take, length-set, getD-replicate}
 use lib.Seq.{length-take-le, getD-take, getD-set-same, getD-set-other}
-use Rattle.model.specs.Numbers.{one, largest, all, cell, at}
+use Rattle.model.specs.Numbers.{one, largest, cell, at}
 use Rattle.model.specs.Rounds.{settling, settled, unit, inverse, inverseRounds}
-use Rattle.model.specs.Checks.{Report, accepts, refuses, reportRounds, verdict, output, single, settles, columnsSettle}
+use Rattle.model.specs.Checks.{Report, accepts, refuses, reportRounds, roundsOf, verdict, output, single, settles, columnsSettle}
 use Rattle.model.specs.Calls.{matrixChecks, inverseReport}
 use Rattle.model.specs.Promises.{AcceptedMatrix}
 use Rattle.model.specs.declared.Outcome.{Outcome}
 use Rattle.model.specs.declared.Outcome.the-variants.{Settled, Refused}
+use Rattle.theory.specs.Slices.{Each}
 use Rattle.theory.proofs.Lists.{All, all-none, all-more, length-tabulate, cell-tabulate, tabulated}
 use Rattle.theory.proofs.Matrices.{matrix-cell, matrix-made}
-use Rattle.theory.proofs.Verdicts.{passed, failed-each, accepted-all, accepted-matrix}
+use Rattle.theory.proofs.Verdicts.{passed, failed-each, accepted-all, all-pass-parts, accepted-matrix}
 
 -- ---- the demand of one in sector j
 module _ (n j : ℕ) where
@@ -53,11 +54,11 @@ module _ (n j : ℕ) where
       split k l false e = getD-set-other (replicate 40 0) j k one 0 (eqb-false k j e) ∙ getD-replicate 40 k 0 0 l
 
 -- ---- a check with one place, answered
-one-passed : (q m k : ℕ) (b : Bool) → accepts k ≡ verdict (single q b ∷ []) m → (b ≡ true) × (k ≡ m)
-one-passed q m k true e = (refl, ap (λ (r : Report). r .rounds) e)
+one-passed : (q m k : ℕ) (b : Bool) → accepts (k ∷ []) ≡ verdict (single q b ∷ []) (m ∷ []) → (b ≡ true) × (k ≡ m)
+one-passed q m k true e = (refl, ap (λ (r : Report). roundsOf r) e)
 one-passed q m k false e = absurd (false≢true (ap (λ (r : Report). r .accepted) (sym e)))
 
-one-failed : (q m a p : ℕ) (b : Bool) → refuses a p ≡ verdict (single q b ∷ []) m → b ≡ false
+one-failed : (q m a p : ℕ) (b : Bool) → refuses 1 a p ≡ verdict (single q b ∷ []) (m ∷ []) → b ≡ false
 one-failed q m a p true e = absurd (false≢true (ap (λ (r : Report). r .accepted) e))
 one-failed q m a p false e = refl
 
@@ -90,7 +91,7 @@ module _ (n : ℕ) (d : List ℕ) (budget : ℕ) where
 
   -- what is answered for column j
   abbrev pub Said : ℕ → Outcome → Type 0
-  Said j r = reportRounds r ≡ verdict (single 9 (settles n (at n d) (unit n j) budget) ∷ []) (count j)
+  Said j r = reportRounds r ≡ verdict (single 9 (settles n (at n d) (unit n j) budget) ∷ []) (count j ∷ [])
 
   module _ {j : ℕ} {sheet : List ℕ} {most : ℕ} (F : Filled j sheet most) {r : Outcome} (said : Said j r) where
     -- one column more
@@ -109,25 +110,26 @@ module _ (n : ℕ) (d : List ℕ) (budget : ℕ) where
         }
 
     -- the first that does not settle
-    pub filled-stop : {q p : ℕ} → j < n → r ≡ Refused q p → refuses 9 j ≡ verdict (columnsSettle n d budget ∷ []) (inverseRounds n d budget)
+    pub filled-stop : {q p : ℕ} → j < n → r ≡ Refused q p → refuses 1 9 j ≡ verdict (columnsSettle n d budget ∷ []) (inverseRounds n d budget ∷ [])
     filled-stop {q} {p} h e =
-        sym (failed-each 9 n (columnsSettle n d budget .passes) [] (inverseRounds n d budget) j h (F .settle)
+        sym (failed-each 9 n (columnsSettle n d budget .passes) [] (inverseRounds n d budget ∷ []) j h (F .settle)
         (one-failed 9 (count j) q p (settles n (at n d) (unit n j) budget) (sym (ap reportRounds e) ∙ said)))
 
   -- all of them
   pub filled-all : {j : ℕ} {sheet : List ℕ} {most : ℕ} → Filled j sheet most → 1 ≤ n → j ≤ n → n ≤ j
-      → (accepts most ≡ verdict (columnsSettle n d budget ∷ []) (inverseRounds n d budget)) × (sheet ≡ inverse n d budget)
+      → (accepts (most ∷ []) ≡ verdict (columnsSettle n d budget ∷ []) (inverseRounds n d budget ∷ [])) × (sheet ≡ inverse n d budget)
   unfolding inverse inverseRounds
   filled-all {j} {sheet} {most} F some h l = (
-    ap accepts (F .counts ∙ ap (λ (k : ℕ). largest k count) (le-antisymm h l))
-        ∙ sym (passed (columnsSettle n d budget) [] (inverseRounds n d budget) j l (F .settle)),
+    ap (λ (k : ℕ). accepts (k ∷ [])) (F .counts ∙ ap (λ (k : ℕ). largest k count) (le-antisymm h l))
+        ∙ sym (passed (columnsSettle n d budget) [] (inverseRounds n d budget ∷ []) j l (F .settle)),
     matrix-made n (λ i j. cell (column j) i) sheet some (F .cells) (λ i k g m. F .columns k (lt-of-lt-of-le m l) i g),
   )
 
   -- an accepted call: the matrix is accepted, and the ratios have their lengths
   pub accepted-inverse : (matrices lent : List ℕ) → inverseReport n d budget matrices lent .accepted ≡ true
-      → AcceptedMatrix n d × (all (eqb n) lent ≡ true)
+      → AcceptedMatrix n d × Each n lent
   unfolding inverseReport
   accepted-inverse matrices lent a =
-      let p = accepted-all (matrixChecks n d matrices lent ++ (columnsSettle n d budget ∷ [])) (inverseRounds n d budget) a in
-      accepted-matrix n d matrices lent (p .0, (p .1 .0, (p .1 .1 .0, tt)))
+      let ninth = columnsSettle n d budget ∷ [] in
+      accepted-matrix n d matrices lent
+      (all-pass-parts (matrixChecks n d matrices lent) ninth (accepted-all (matrixChecks n d matrices lent ++ ninth) (inverseRounds n d budget ∷ []) a) .0)

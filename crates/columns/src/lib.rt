@@ -18,7 +18,7 @@ ghost use Rattle.model.specs.Promises.{AcceptedMatrix};
 // Column j of the Leontief inverse: the production settled from one in sector j, or 0 in every cell.
 fn one_column(n: usize, d: &[u64], budget: u32, j: usize, sheet: &mut [u64]) -> Outcome
     requires { ⌜ AcceptedMatrix n (now d) × (length (now sheet) ≡ n * n) × (j < n) ⌝ }
-    ensures { λ r. ⌜ reportRounds r ≡ verdict (single 9 (settles n (at n (now (d .entry))) (unit n j) budget) ∷ []) (settling n (at n (now (d .entry))) (unit n j) budget) ⌝ }
+    ensures { λ r. ⌜ reportRounds r ≡ verdict (single 9 (settles n (at n (now (d .entry))) (unit n j) budget) ∷ []) (settling n (at n (now (d .entry))) (unit n j) budget ∷ []) ⌝ }
     ensures { λ r. ⌜ ((i : ℕ) → i < n → at n (now (sheet .exit)) i j ≡ cell (output (reportRounds r) n (settled n (at n (now (d .entry))) (unit n j) budget)) i) ⌝ }
     ensures { λ _. ⌜ ((i k : ℕ) → k < j → at n (now (sheet .exit)) i k ≡ at n (now (sheet .entry)) i k) ⌝ }
 {
@@ -53,7 +53,7 @@ fn larger(a: u32, b: u32) -> u32
 // sheet at 0.
 fn all_columns(n: usize, d: &[u64], budget: u32, sheet: &mut [u64]) -> Outcome
     requires { ⌜ AcceptedMatrix n (now d) × (length (now sheet) ≡ n * n) ⌝ }
-    ensures { λ r. ⌜ reportRounds r ≡ verdict (columnsSettle n (now (d .entry)) budget ∷ []) (inverseRounds n (now (d .entry)) budget) ⌝ }
+    ensures { λ r. ⌜ reportRounds r ≡ verdict (columnsSettle n (now (d .entry)) budget ∷ []) (inverseRounds n (now (d .entry)) budget ∷ []) ⌝ }
     ensures { λ r. ⌜ now (sheet .exit) ≡ output (reportRounds r) (length (now (sheet .entry))) (inverse n (now (d .entry)) budget) ⌝ }
 {
     let mut most: u32 = 0;
@@ -79,7 +79,7 @@ fn check_inverse(
     power_len: usize,
     sensitivity_len: usize,
 ) -> Answer
-    ensures { λ r. ⌜ report r ≡ verdict (matrixChecks n (now (d .entry)) («sheet_len» ∷ []) («power_len» ∷ «sensitivity_len» ∷ [])) 0 ⌝ }
+    ensures { λ r. ⌜ report r ≡ verdict (matrixChecks n (now (d .entry)) («sheet_len» ∷ []) («power_len» ∷ «sensitivity_len» ∷ [])) [] ⌝ }
 {
     let matrices = [d.len(), sheet_len];
     let lent = [power_len, sensitivity_len];

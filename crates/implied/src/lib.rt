@@ -5,21 +5,20 @@ use checks::check_domestic;
 use checks::demand_left;
 use checks::total_within;
 use model::Answer;
-ghost use mathlib.Core.Bool.{true};
-ghost use mathlib.Core.List.{List, [], _∷_, _++_};
+ghost use mathlib.Core.List.{[], _∷_, _++_};
 ghost use mathlib.Core.Path.{_≡_};
 ghost use Prim.Native.Nat.{ℕ, _*_, _<_, _≤_};
 ghost use lib.ListN.{length};
 ghost use Rattle.model.specs.Numbers.{at, cell};
-ghost use Rattle.model.specs.Rounds.{impliedDemand, intermediate, settled, weighted};
-ghost use Rattle.model.specs.Checks.{accepts, report, output, productionTotal, verdict};
-ghost use Rattle.model.specs.Calls.{impliedReport, matrixChecks, productionReport};
-ghost use Rattle.model.specs.Promises.{NotAbove, Returns};
+ghost use Rattle.model.specs.Rounds.{impliedDemand, intermediate, weighted};
+ghost use Rattle.model.specs.Checks.{report, productionTotal, verdict};
+ghost use Rattle.model.specs.Calls.{impliedReport, matrixChecks};
+ghost use Rattle.model.specs.Contracts.{Implied};
 ghost use Rattle.theory.specs.Bounds.{sumLimit};
 
 // Questions 1, 2, 7 and 8 of a given production.
 fn check_production(n: usize, d: &[u64], y: &[u64], out_len: usize) -> Answer
-    ensures { λ r. ⌜ report r ≡ verdict (matrixChecks n (now (d .entry)) [] (length (now (y .entry)) ∷ «out_len» ∷ []) ++ (productionTotal n (now (y .entry)) ∷ [])) 0 ⌝ }
+    ensures { λ r. ⌜ report r ≡ verdict (matrixChecks n (now (d .entry)) [] (length (now (y .entry)) ∷ «out_len» ∷ []) ++ (productionTotal n (now (y .entry)) ∷ [])) [] ⌝ }
 {
     let lent = [y.len(), out_len];
     let matrix = check_domestic(n, d, &lent);
@@ -52,16 +51,9 @@ fn subtract(n: usize, d: &[u64], y: &[u64], out: &mut [u64])
     }
 }
 
-// The demand for domestic goods behind a given production: what industry takes, rounded down, is taken off it. For a production that rounds
-// have settled this is the demand that they started from (`returns`), and every production that the call of that name gives is accepted
-// here and gives its demand back (`inverse`). Going back and then forward need not return, which the paper leaves open: what holds is that
-// the production settled from this demand is nowhere above the given one (`back`).
+// The demand for domestic goods behind a given production: what industry takes, rounded down, is taken off it. What it promises is `Implied`.
 pub fn implied_demand(n: usize, d: &[u64], production: &[u64], out: &mut [u64]) -> Answer
-    ensures answer { λ r. ⌜ report r ≡ impliedReport n (now (d .entry)) (now (production .entry)) (length (now (out .entry)) ∷ []) ⌝ }
-    ensures outputs { λ r. ⌜ now (out .exit) ≡ output (report r) (length (now (out .entry))) (impliedDemand n (at n (now (d .entry))) (now (production .entry))) ⌝ }
-    ensures returns { λ r. ⌜ (report r .accepted ≡ true → Returns n (now (d .entry)) (now (production .entry)) (now (out .exit))) ⌝ }
-    ensures back { λ r. ⌜ (report r .accepted ≡ true → NotAbove n (now (d .entry)) (now (production .entry)) (now (out .exit))) ⌝ }
-    ensures inverse { λ r. ⌜ ((f : List ℕ) (budget : ℕ) (lent : List ℕ) → productionReport n (now (d .entry)) f budget lent .accepted ≡ true → now (production .entry) ≡ settled n (at n (now (d .entry))) f budget → length (now (out .entry)) ≡ n → (report r ≡ accepts 0) × (now (out .exit) ≡ f)) ⌝ }
+    ensures { λ r. ⌜ Implied n (now (d .entry)) (now (production .entry)) (now (out .entry)) (report r) (now (out .exit)) ⌝ }
 {
     let checked = check_implied(n, d, production, out.len());
     match checked {

@@ -13,13 +13,14 @@ ghost use Prim.Native.Nat.{ℕ, _*_, _<_, _≤_};
 ghost use lib.ListN.{length};
 ghost use Rattle.model.specs.Numbers.{at, cell, one, sum};
 ghost use Rattle.model.specs.Rounds.{inducedImports, inducedValueAdded};
-ghost use Rattle.model.specs.Checks.{amountLimit, inducedAmounts, output, report, verdict};
+ghost use Rattle.model.specs.Checks.{amountLimit, inducedAmounts, productionLimit, report, verdict};
 ghost use Rattle.model.specs.Calls.{inducedReport};
+ghost use Rattle.model.specs.Contracts.{Induced};
 
 // Question 3: shares within one, amounts within 1,000,000,000.
 fn check_amounts(n: usize, a: &[u64], m: &[u64], v: &[u64], final_demand: &[u64]) -> Answer
     requires { ⌜ (n ≤ 40) × (length (now a) ≡ n * n) × (length (now m) ≡ n) × (length (now v) ≡ n) × (length (now «final_demand») ≡ n) ⌝ }
-    ensures { λ r. ⌜ report r ≡ verdict (inducedAmounts n (now (a .entry)) (now (m .entry)) (now (v .entry)) (now («final_demand» .entry))) 0 ⌝ }
+    ensures { λ r. ⌜ report r ≡ verdict (inducedAmounts n (now (a .entry)) (now (m .entry)) (now (v .entry)) (now («final_demand» .entry))) [] ⌝ }
 {
     let inputs = matrix_within(n, a, 1_000_000);
     let imports = next_within(inputs, n * n, 1_000_000, m);
@@ -31,7 +32,7 @@ fn check_amounts(n: usize, a: &[u64], m: &[u64], v: &[u64], final_demand: &[u64]
 fn fill_value_added(n: usize, v: &[u64], y: &[u64], out: &mut [u64])
     requires { ⌜ (length (now v) ≡ n) × (length (now y) ≡ n) × (length (now out) ≡ n) ⌝ }
     requires { ⌜ ((i : ℕ) → i < n → cell (now v) i ≤ one) ⌝ }
-    requires { ⌜ sum n (cell (now y)) ≤ 1600000000000 ⌝ }
+    requires { ⌜ sum n (cell (now y)) ≤ productionLimit ⌝ }
     ensures { λ _. ⌜ now (out .exit) ≡ inducedValueAdded n (now (v .entry)) (now (y .entry)) ⌝ }
 {
     for j in 0..n {
@@ -45,7 +46,7 @@ fn fill_imports(n: usize, a: &[u64], m: &[u64], final_demand: &[u64], y: &[u64],
     requires { ⌜ ((i : ℕ) → i < n * n → cell (now a) i ≤ one) ⌝ }
     requires { ⌜ ((i : ℕ) → i < n → cell (now m) i ≤ one) ⌝ }
     requires { ⌜ ((i : ℕ) → i < n → cell (now «final_demand») i ≤ amountLimit) ⌝ }
-    requires { ⌜ sum n (cell (now y)) ≤ 1600000000000 ⌝ }
+    requires { ⌜ sum n (cell (now y)) ≤ productionLimit ⌝ }
     ensures { λ _. ⌜ now (out .exit) ≡ inducedImports n (at n (now (a .entry))) (now (m .entry)) (now («final_demand» .entry)) (now (y .entry)) ⌝ }
 {
     for i in 0..n {
@@ -87,7 +88,8 @@ fn check_induced(
     total_within(n, y)
 }
 
-// Value added and imports that a production induces, from input coefficients, import shares, value shares and final demand. No result is left open.
+// Value added and imports that a production induces, from input coefficients, import shares, value shares and final demand. What it promises is
+// `Induced`.
 pub fn induced(
     n: usize,
     a: &[u64],
@@ -98,9 +100,7 @@ pub fn induced(
     value: &mut [u64],
     imports: &mut [u64],
 ) -> Answer
-    ensures answer { λ r. ⌜ report r ≡ inducedReport n (now (a .entry)) (now (m .entry)) (now (v .entry)) (now («final_demand» .entry)) (now (production .entry)) (length (now (value .entry)) ∷ length (now (imports .entry)) ∷ []) ⌝ }
-    ensures values { λ r. ⌜ now (value .exit) ≡ output (report r) (length (now (value .entry))) (inducedValueAdded n (now (v .entry)) (now (production .entry))) ⌝ }
-    ensures imported { λ r. ⌜ now (imports .exit) ≡ output (report r) (length (now (imports .entry))) (inducedImports n (at n (now (a .entry))) (now (m .entry)) (now («final_demand» .entry)) (now (production .entry))) ⌝ }
+    ensures { λ r. ⌜ Induced n (now (a .entry)) (now (m .entry)) (now (v .entry)) (now («final_demand» .entry)) (now (production .entry)) (now (value .entry)) (now (imports .entry)) (report r) (now (value .exit)) (now (imports .exit)) ⌝ }
 {
     let checked = check_induced(
         n,

@@ -74,16 +74,16 @@ infix 68 _⊳_ _⊢_ _⊣_
 abbrev _⊳_ : Result → Result → Row
 g ⊳ s = record { given = g; stated = s }
 
--- an acceptance with k rounds, and a refusal
-abbrev _⊢_ : ℕ → List (List ℕ) → Result
-k ⊢ cells = record { said = accepts k; outputs = cells }
+-- an acceptance with these counts, and a refusal
+abbrev _⊢_ : List ℕ → List (List ℕ) → Result
+ks ⊢ cells = record { said = accepts ks; outputs = cells }
 
 abbrev _⊣_ : Report → List (List ℕ) → Result
 r ⊣ cells = record { said = r; outputs = cells }
 
 -- 1 × b is an exact balance of the start s: its two sides are equal
 abbrev balance : ℕ → List ℕ → List ℕ → List ℕ → Row
-balance n d s b = (0 ⊢ (leftSide n d b ∷ [])) ⊳ (0 ⊢ (rightSide n d s 1 b ∷ []))
+balance n d s b = ([] ⊢ (leftSide n d b ∷ [])) ⊳ ([] ⊢ (rightSide n d s 1 b ∷ []))
 
 -- ---- the worked table
 abbrev table : Table
@@ -91,11 +91,7 @@ table =
     record {
       sectors = 2;
       flows = 100 ∷ 400 ∷ 300 ∷ 600 ∷ [];
-      finalDemand = 500 ∷ 900 ∷ [];
-      exports = 250 ∷ 560 ∷ [];
-      imports = 250 ∷ 360 ∷ [];
-      valueAdded = 600 ∷ 1000 ∷ [];
-      production = 1000 ∷ 2000 ∷ [];
+      columns = (500 ∷ 900 ∷ []) ∷ (250 ∷ 560 ∷ []) ∷ (250 ∷ 360 ∷ []) ∷ (600 ∷ 1000 ∷ []) ∷ (1000 ∷ 2000 ∷ []) ∷ [];
     }
 
 abbrev pub d : List ℕ
@@ -108,28 +104,28 @@ unfoldable pub rows : List Row
 rows =
     -- P1: accepted, with a, v, m, d and f
     coefficientsOf table
-    ⊳ (0 ⊢ ((100000 ∷ 200000 ∷ 300000 ∷ 300000 ∷ []) ∷ (600000 ∷ 500000 ∷ []) ∷ (250000 ∷ 200000 ∷ []) ∷ d ∷ f ∷ []))
+    ⊳ ([] ⊢ ((100000 ∷ 200000 ∷ 300000 ∷ 300000 ∷ []) ∷ (600000 ∷ 500000 ∷ []) ∷ (250000 ∷ 200000 ∷ []) ∷ d ∷ f ∷ []))
     -- P2, at the least budget and at the largest, and its exact balance; P3
-    ∷ productionOf 2 d f 9 ⊳ (9 ⊢ ((999 ∷ 1999 ∷ []) ∷ []))
-    ∷ productionOf 2 d f 4294967295 ⊳ (9 ⊢ ((999 ∷ 1999 ∷ []) ∷ []))
+    ∷ productionOf 2 d f 9 ⊳ ((9 ∷ []) ⊢ ((999 ∷ 1999 ∷ []) ∷ []))
+    ∷ productionOf 2 d f 4294967295 ⊳ ((9 ∷ []) ⊢ ((999 ∷ 1999 ∷ []) ∷ []))
     ∷ balance 2 d f (1000 ∷ 2000 ∷ [])
-    ∷ productionOf 2 d f 8 ⊳ (refuses 9 0 ⊣ ((0 ∷ 0 ∷ []) ∷ []))
+    ∷ productionOf 2 d f 8 ⊳ (refuses 1 9 0 ⊣ ((0 ∷ 0 ∷ []) ∷ []))
     -- P4 to P6
-    ∷ impliedOf 2 d (999 ∷ 1999 ∷ []) ⊳ (0 ⊢ (f ∷ []))
-    ∷ impliedOf 2 d (1000 ∷ 2000 ∷ []) ⊳ (0 ⊢ (f ∷ []))
-    ∷ impliedOf 2 d (0 ∷ 1000 ∷ []) ⊳ (refuses 10 0 ⊣ ((0 ∷ 0 ∷ []) ∷ []))
+    ∷ impliedOf 2 d (999 ∷ 1999 ∷ []) ⊳ ([] ⊢ (f ∷ []))
+    ∷ impliedOf 2 d (1000 ∷ 2000 ∷ []) ⊳ ([] ⊢ (f ∷ []))
+    ∷ impliedOf 2 d (0 ∷ 1000 ∷ []) ⊳ (refuses 0 10 0 ⊣ ((0 ∷ 0 ∷ []) ∷ []))
     -- P7
-    ∷ priceOf 2 d (10000 ∷ 0 ∷ []) 4294967295 ⊳ (10 ⊢ ((11393 ∷ 2248 ∷ []) ∷ []))
+    ∷ priceOf 2 d (10000 ∷ 0 ∷ []) 4294967295 ⊳ ((10 ∷ []) ⊢ ((11393 ∷ 2248 ∷ []) ∷ []))
     -- P8 and its exact balance; P9; P10
-    ∷ productionOf 1 (950000 ∷ []) (1 ∷ []) 4294967295 ⊳ (1 ⊢ ((1 ∷ []) ∷ []))
+    ∷ productionOf 1 (950000 ∷ []) (1 ∷ []) 4294967295 ⊳ ((1 ∷ []) ⊢ ((1 ∷ []) ∷ []))
     ∷ balance 1 (950000 ∷ []) (1 ∷ []) (20 ∷ [])
-    ∷ productionOf 1 (950001 ∷ []) (1 ∷ []) 4294967295 ⊳ (refuses 7 0 ⊣ ((0 ∷ []) ∷ []))
-    ∷ productionOf 2 d (0 ∷ 0 ∷ []) 4294967295 ⊳ (1 ⊢ ((0 ∷ 0 ∷ []) ∷ []))
+    ∷ productionOf 1 (950001 ∷ []) (1 ∷ []) 4294967295 ⊳ (refuses 1 7 0 ⊣ ((0 ∷ []) ∷ []))
+    ∷ productionOf 2 d (0 ∷ 0 ∷ []) 4294967295 ⊳ ((1 ∷ []) ⊢ ((0 ∷ 0 ∷ []) ∷ []))
     -- P11
-    ∷ productionOf 0 [] [] 4294967295 ⊳ (refuses 1 0 ⊣ ([] ∷ []))
-    ∷ productionOf 41 [] [] 4294967295 ⊳ (refuses 1 0 ⊣ (tabulate 41 (λ _. 0) ∷ []))
+    ∷ productionOf 0 [] [] 4294967295 ⊳ (refuses 1 1 0 ⊣ ([] ∷ []))
+    ∷ productionOf 41 [] [] 4294967295 ⊳ (refuses 1 1 0 ⊣ (tabulate 41 (λ _. 0) ∷ []))
     -- P12: the inverse cell, its influence and its sensitivity
-    ∷ inverseOf 1 (500000 ∷ []) 4294967295 ⊳ (21 ⊢ ((1999999 ∷ []) ∷ (1000000 ∷ []) ∷ (1000000 ∷ []) ∷ []))
+    ∷ inverseOf 1 (500000 ∷ []) 4294967295 ⊳ ((21 ∷ []) ⊢ ((1999999 ∷ []) ∷ (1000000 ∷ []) ∷ (1000000 ∷ []) ∷ []))
     ∷ []
 
 pub worked : map (λ (r : Row). r .given) rows ≡ map (λ (r : Row). r .stated) rows

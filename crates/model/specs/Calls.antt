@@ -1,10 +1,10 @@
 -- For every call its checks in order, its report, and its results. `lent` is the lengths of the slices of n cells that a call is lent for
 -- outputs and work, `matrices` of those of n × n cells. After a call an output slice holds `output report length result`, and a work slice
 -- holds 0 in every cell.
-use mathlib.Core.List.{List, [], _∷_, _++_}
+use mathlib.Core.List.{List, [], _∷_, _++_, map}
 use Prim.Native.Nat.{ℕ}
 use lib.ListN.{length}
-use Rattle.model.specs.Numbers.{tabulate, at, matrix, transposed}
+use Rattle.model.specs.Numbers.{Cells, Sheet, tabulate, at, matrix, transposed}
 use Rattle.model.specs.Table.{Table, inputCoefficient, valueAddedCoefficient, importCoefficient, domesticCoefficient, domesticDemand}
 use Rattle.model.specs.Rounds.{settling, inverseRounds}
 use Rattle.model.specs.Checks.{Report, Check, verdict, single, size, lengths, tableAmounts, inducedAmounts, balanceChecks, columnSums, bounded, demandLimit, riseLimit, productionTotal, settles, columnsSettle, demandLeft}
@@ -27,50 +27,49 @@ module _ (t : Table) where
   domesticDemands = tabulate (t .sectors) (domesticDemand t)
 
   -- Sheets from a table ask 1 to 7
-  abbrev pub tableChecks : List ℕ → List ℕ → List Check
+  abbrev pub tableChecks : (matrices lent : List ℕ) → List Check
   tableChecks matrices lent =
-      let columns = length (t .finalDemand) ∷ length (t .exports) ∷ length (t .imports) ∷ length (t .valueAdded) ∷ length (t .production) ∷ lent in
-      size (t .sectors) ∷ lengths (t .sectors) (length (t .flows) ∷ matrices) columns
+      size (t .sectors) ∷ lengths (t .sectors) (length (t .flows) ∷ matrices) (map length (t .columns) ++ lent)
       ∷ tableAmounts t ++ balanceChecks t
 
-  unfoldable pub coefficientsReport : List ℕ → List ℕ → Report
+  unfoldable pub coefficientsReport : (matrices lent : List ℕ) → Report
   coefficientsReport matrices lent =
-      verdict (tableChecks matrices lent ++ (columnSums (t .sectors) (at (t .sectors) domesticCoefficients) ∷ [])) 0
+      verdict (tableChecks matrices lent ++ (columnSums (t .sectors) (at (t .sectors) domesticCoefficients) ∷ [])) []
 
 module _ (n : ℕ) (d : List ℕ) where
   -- Every call on a domestic sheet asks 1, 2 and 7 first
-  abbrev pub matrixChecks : List ℕ → List ℕ → List Check
+  abbrev pub matrixChecks : (matrices lent : List ℕ) → List Check
   matrixChecks matrices lent = size n ∷ lengths n (length d ∷ matrices) lent ∷ columnSums n (at n d) ∷ []
 
   -- Production and price ask 1, 2, 7, 8, 9
-  abbrev pub settlingChecks : (ℕ → ℕ → ℕ) → ℕ → List ℕ → ℕ → List ℕ → List Check
+  abbrev pub settlingChecks : (c : Sheet) (limit : ℕ) (s : Cells) (budget : ℕ) (lent : List ℕ) → List Check
   settlingChecks c limit s budget lent =
       matrixChecks [] (length s ∷ lent) ++ (bounded 8 0 limit s ∷ single 9 (settles n c s budget) ∷ [])
 
-  abbrev pub settlingReport : (ℕ → ℕ → ℕ) → ℕ → List ℕ → ℕ → List ℕ → Report
-  settlingReport c limit s budget lent = verdict (settlingChecks c limit s budget lent) (settling n c s budget)
+  abbrev pub settlingReport : (c : Sheet) (limit : ℕ) (s : Cells) (budget : ℕ) (lent : List ℕ) → Report
+  settlingReport c limit s budget lent = verdict (settlingChecks c limit s budget lent) (settling n c s budget ∷ [])
 
   -- its result: `settled n (at n d) f budget`
-  unfoldable pub productionReport : List ℕ → ℕ → List ℕ → Report
+  unfoldable pub productionReport : (f : Cells) (budget : ℕ) (lent : List ℕ) → Report
   productionReport f budget lent = settlingReport (at n d) demandLimit f budget lent
 
   -- its result: `settled n (transposed (at n d)) w budget`
-  unfoldable pub priceReport : List ℕ → ℕ → List ℕ → Report
+  unfoldable pub priceReport : (w : Cells) (budget : ℕ) (lent : List ℕ) → Report
   priceReport w budget lent = settlingReport (transposed (at n d)) riseLimit w budget lent
 
   -- Backwards asks 1, 2, 7, 8, 10; its result: `impliedDemand n (at n d) y`
-  unfoldable pub impliedReport : List ℕ → List ℕ → Report
+  unfoldable pub impliedReport : (y : Cells) (lent : List ℕ) → Report
   impliedReport y lent =
-      verdict (matrixChecks [] (length y ∷ lent) ++ (productionTotal n y ∷ demandLeft n (at n d) y ∷ [])) 0
+      verdict (matrixChecks [] (length y ∷ lent) ++ (productionTotal n y ∷ demandLeft n (at n d) y ∷ [])) []
 
   -- The inverse sheet asks 1, 2, 7, 9; its results: z, which is `inverse n d budget`, `dispersion n (at n z)` and
   -- `dispersion n (transposed (at n z))`
-  unfoldable pub inverseReport : ℕ → List ℕ → List ℕ → Report
+  unfoldable pub inverseReport : (budget : ℕ) (matrices lent : List ℕ) → Report
   inverseReport budget matrices lent =
-      verdict (matrixChecks matrices lent ++ (columnsSettle n d budget ∷ [])) (inverseRounds n d budget)
+      verdict (matrixChecks matrices lent ++ (columnsSettle n d budget ∷ [])) (inverseRounds n d budget ∷ [])
 
 -- Induced amounts ask 1, 2, 3, 8; their results: `inducedValueAdded n v y` and `inducedImports n (at n a) m F y`
-unfoldable pub inducedReport : ℕ → (a m v F y : List ℕ) → List ℕ → Report
+unfoldable pub inducedReport : (n : ℕ) (a m v F y : Cells) (lent : List ℕ) → Report
 inducedReport n a m v F y lent =
     let columns = length m ∷ length v ∷ length F ∷ length y ∷ lent in
-    verdict (size n ∷ lengths n (length a ∷ []) columns ∷ inducedAmounts n a m v F ++ (productionTotal n y ∷ [])) 0
+    verdict (size n ∷ lengths n (length a ∷ []) columns ∷ inducedAmounts n a m v F ++ (productionTotal n y ∷ [])) []

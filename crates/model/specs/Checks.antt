@@ -5,35 +5,57 @@ use Prim.Native.Nat.{ℕ, suc, _+_, _*_}
 use lib.Dec.{eqb, leb, ltb}
 use lib.ListN.{length, replicate}
 use Rattle.model.specs.Numbers.{one, sum, first, all, cell, at, transposed}
-use Rattle.model.specs.Table.{Table, flow, need}
+use Rattle.model.specs.Table.{Table, flow, need, exports, imports, valueAdded, production}
 use Rattle.model.specs.Rounds.{intermediate, settling, unit}
 use Rattle.model.specs.declared.Answer.{Answer}
 use Rattle.model.specs.declared.Answer.the-variants.{Accepted, Refused}
 use Rattle.model.specs.declared.Outcome.{Outcome}
 use Rattle.model.specs.declared.Outcome.the-variants.{Settled, Refused as Outcome·Refused}
+use Rattle.model.specs.declared.TableRead.{TableRead}
+use Rattle.model.specs.declared.TableRead.the-variants.{Read, Refused as TableRead·Refused}
+use Rattle.model.specs.declared.PageWritten.{PageWritten}
+use Rattle.model.specs.declared.PageWritten.the-variants.{Written, Refused as PageWritten·Refused}
 
--- An answer in the paper's numbers: its number, its place and its count of rounds, which is 0 where a call has none
+-- An answer in the paper's numbers: its number, its place, and the other numbers of its answer, which are its counts: none, the rounds, the
+-- sectors and the named cells of a file, or the bytes of a page
 pub record Report : Type 0 where
   pub accepted : Bool
   pub number : ℕ
   pub place : ℕ
-  pub rounds : ℕ
+  pub counts : List ℕ
 
--- acceptance has number 0 and place 0; a refusal has 0 for every other number of its answer
-abbrev pub accepts : ℕ → Report
-accepts k = record { accepted = true; number = 0; place = 0; rounds = k }
+-- acceptance has number 0 and place 0
+abbrev pub accepts : (counts : List ℕ) → Report
+accepts ks = record { accepted = true; number = 0; place = 0; counts = ks }
 
-abbrev pub refuses : ℕ → ℕ → Report
-refuses q p = record { accepted = false; number = q; place = p; rounds = 0 }
+-- a refusal of a call with so many counts has "0 for every other number of its answer"
+abbrev pub refuses : (counts number place : ℕ) → Report
+refuses k q p = record { accepted = false; number = q; place = p; counts = replicate k 0 }
 
 -- what the calls' answers say, case by case
 abbrev pub report : Answer → Report
-report Accepted = accepts 0
-report (Refused q p) = refuses q p
+report Accepted = accepts []
+report (Refused q p) = refuses 0 q p
 
 abbrev pub reportRounds : Outcome → Report
-reportRounds (Settled k) = accepts k
-reportRounds (Outcome·Refused q p) = refuses q p
+reportRounds (Settled k) = accepts (k ∷ [])
+reportRounds (Outcome·Refused q p) = refuses 1 q p
+
+abbrev pub reportRead : TableRead → Report
+reportRead (Read n k) = accepts (n ∷ k ∷ [])
+reportRead (TableRead·Refused q p) = refuses 2 q p
+
+abbrev pub reportPage : PageWritten → Report
+reportPage (Written k) = accepts (k ∷ [])
+reportPage (PageWritten·Refused q p) = refuses 1 q p
+
+-- and an answer that was told as numbers, as it is to C: it is accepted where its number is 0
+abbrev pub reportTold : (number place : ℕ) (counts : List ℕ) → Report
+reportTold q p ks = record { accepted = eqb q 0; number = q; place = p; counts = ks }
+
+-- the count of rounds of a call that has one
+abbrev pub roundsOf : Report → ℕ
+roundsOf r = cell (r .counts) 0
 
 -- A check: its number, the place of its first cell, how many cells it has, and a test of each
 pub record Check : Type 0 where
@@ -42,13 +64,13 @@ pub record Check : Type 0 where
   pub places : ℕ
   pub passes : ℕ → Bool
 
--- The first check that fails gives its number and its first failing place; where none fails the call is accepted, with k rounds
-abbrev pub verdict : List Check → ℕ → Report
-verdict [] k = accepts k
-verdict (q ∷ qs) k =
+-- The first check that fails gives its number and its first failing place; where none fails the call is accepted, with these counts
+abbrev pub verdict : List Check → (counts : List ℕ) → Report
+verdict [] ks = accepts ks
+verdict (q ∷ qs) ks =
     let cell = first (q .places) (q .passes) in
-    let later = verdict qs k in
-    cond (ltb cell (q .places)) (refuses (q .number) (q .offset + cell)) later
+    let later = verdict qs ks in
+    cond (ltb cell (q .places)) (refuses (length ks) (q .number) (q .offset + cell)) later
 
 -- What a call leaves in an output slice: the result, or 0 in every cell, whatever the slice's length
 abbrev pub output : Report → ℕ → List ℕ → List ℕ
@@ -78,19 +100,16 @@ lengths n matrices columns = single 2 (all (eqb (n * n)) matrices && all (eqb n)
 
 -- 3. every amount is within 1,000,000,000, and every share within one
 abbrev pub amountLimit : ℕ
-amountLimit = 1000000000
+amountLimit = 1_000_000_000
 
--- of a table the amounts of x, F, E, M, V, X
+-- slices with one limit: places are counted on through them, from a place on
+abbrev pub counted : ℕ → ℕ → List (List ℕ) → List Check
+counted place limit [] = []
+counted place limit (s ∷ ss) = bounded 3 place limit s ∷ counted (place + length s) limit ss
+
+-- of a table the amounts of x, then of each column
 abbrev pub tableAmounts : Table → List Check
-tableAmounts t =
-    let n = t .sectors in
-    bounded 3 0 amountLimit (t .flows)
-    ∷ bounded 3 (n * n) amountLimit (t .finalDemand)
-    ∷ bounded 3 (n * n + n) amountLimit (t .exports)
-    ∷ bounded 3 (n * n + n + n) amountLimit (t .imports)
-    ∷ bounded 3 (n * n + n + n + n) amountLimit (t .valueAdded)
-    ∷ bounded 3 (n * n + n + n + n + n) amountLimit (t .production)
-    ∷ []
+tableAmounts t = counted 0 amountLimit (t .flows ∷ t .columns)
 
 -- for induced amounts the shares of a, m, v, then the amounts of F
 abbrev pub inducedAmounts : ℕ → (a m v F : List ℕ) → List Check
@@ -102,35 +121,38 @@ module _ (t : Table) where
   abbrev pub columnBalances : Check
   columnBalances =
       each 4 (t .sectors)
-      (λ j. eqb (sum (t .sectors) (transposed (flow t) j) + cell (t .valueAdded) j) (cell (t .production) j))
+      (λ j. eqb (sum (t .sectors) (transposed (flow t) j) + cell (valueAdded t) j) (cell (production t) j))
 
   -- 5. every row balances
   abbrev pub rowBalances : Check
   rowBalances =
       each 5 (t .sectors)
-      (λ i. eqb (need t i + cell (t .exports) i) (cell (t .production) i + cell (t .imports) i))
+      (λ i. eqb (need t i + cell (exports t) i) (cell (production t) i + cell (imports t) i))
 
   -- 6. a sector's imports are at most its domestic need
   abbrev pub importsCovered : Check
-  importsCovered = each 6 (t .sectors) (λ i. leb (cell (t .imports) i) (need t i))
+  importsCovered = each 6 (t .sectors) (λ i. leb (cell (imports t) i) (need t i))
 
   abbrev pub balanceChecks : List Check
   balanceChecks = columnBalances ∷ rowBalances ∷ importsCovered ∷ []
 
 -- 7. every column sum of domestic coefficients is at most 950,000
 abbrev pub columnSums : ℕ → (ℕ → ℕ → ℕ) → Check
-columnSums n c = each 7 n (λ j. leb (sum n (transposed c j)) 950000)
+columnSums n c = each 7 n (λ j. leb (sum n (transposed c j)) 950_000)
 
 -- 8. every demand for domestic goods is at most 2,000,000,000, and every direct rise at most 1,000,000,000
 abbrev pub demandLimit : ℕ
-demandLimit = 2000000000
+demandLimit = 2_000_000_000
 
 abbrev pub riseLimit : ℕ
-riseLimit = 1000000000
+riseLimit = 1_000_000_000
 
 -- and the total of a given production is at most 1,600,000,000,000: the place is the first running total above it
+abbrev pub productionLimit : ℕ
+productionLimit = 1_600_000_000_000
+
 abbrev pub productionTotal : ℕ → List ℕ → Check
-productionTotal n y = each 8 n (λ i. leb (sum (suc i) (cell y)) 1600000000000)
+productionTotal n y = each 8 n (λ i. leb (sum (suc i) (cell y)) productionLimit)
 
 -- 9. the rounds settle within the budget; of the inverse sheet those of every column
 abbrev pub settles : ℕ → (ℕ → ℕ → ℕ) → List ℕ → ℕ → Bool

@@ -92,29 +92,37 @@ pub data Reading : Type 0 where
   refused : ℕ → ℕ → Reading
   table : ℕ → List Entry → Reading
 
--- from an offset after the first record, with the cells named so far. A record has at least one byte, so the file's length is steps enough
-unfoldable pub walk : ℕ → List ℕ → ℕ → List Entry → ℕ → Reading
+-- a question: where its answer is no, its number at a place; else what follows
+abbrev require : (yes? : Bool) (number place : ℕ) → Reading → Reading
+require yes? number place onward = cond yes? onward (Reading.refused number place)
+
+abbrev refuseIf : (no? : Bool) (number place : ℕ) → Reading → Reading
+refuseIf no? number place onward = cond no? (Reading.refused number place) onward
+
+-- The records after the first, from an offset on, with the cells named so far. A record has at least one byte, so the file's length is steps
+-- enough (`fuel`)
+unfoldable pub walk : (fuel : ℕ) (s : List ℕ) (n : ℕ) (es : List Entry) (at : ℕ) → Reading
 unfolding wholeAt insideAt entryAt
 walk zero s n es at = Reading.refused 15 (length s)
 walk (suc fuel) s n es at =
-    let later = walk fuel s n (entryAt s at ∷ es) (nextAt s at) in
-    let fresh = cond (named es (entryAt s at)) (Reading.refused 14 at) later in
-    let inside = cond (insideAt s at n) fresh (Reading.refused 13 at) in
-    let end = cond (eqb (at + 1) (length s)) (Reading.table n es) (Reading.refused 15 (at + 1)) in
-    let body = cond (eqb (kindAt s at) 8) end inside in
-    let first = cond (eqb (kindAt s at) 1) (Reading.refused 12 at) body in
-    let whole = cond (wholeAt s at) first (Reading.refused 11 at) in
-    cond (leb (length s) at) (Reading.refused 15 (length s)) whole
+    let onward = walk fuel s n (entryAt s at ∷ es) (nextAt s at) in
+    refuseIf (leb (length s) at) 15 (length s)
+    (require (wholeAt s at) 11 at
+    (refuseIf (eqb (kindAt s at) 1) 12 at
+    (cond (eqb (kindAt s at) 8)
+    (require (eqb (at + 1) (length s)) 15 (at + 1) (Reading.table n es))
+    (require (insideAt s at n) 13 at
+    (refuseIf (named es (entryAt s at)) 14 at onward)))))
 
--- 12. the first record is kind 1 with n from 1 to 40. The empty file gives 15 at 0
+-- The whole file: 12 asks that the first record is kind 1 with n from 1 to 40. The empty file gives 15 at 0
 unfoldable pub reading : List ℕ → Reading
 unfolding wholeAt walk
 reading s =
     let n = cell s 1 in
-    let later = walk (length s) s n [] 2 in
-    let sized = cond (eqb (kindAt s 0) 1 && (leb 1 n && leb n 40)) later (Reading.refused 12 0) in
-    let whole = cond (wholeAt s 0) sized (Reading.refused 11 0) in
-    cond (eqb (length s) 0) (Reading.refused 15 0) whole
+    let onward = walk (length s) s n [] 2 in
+    refuseIf (eqb (length s) 0) 15 0
+    (require (wholeAt s 0) 11 0
+    (require (eqb (kindAt s 0) 1 && (leb 1 n && leb n 40)) 12 0 onward))
 
 -- ---- the cells that a reading names: "a cell not named is 0"
 -- x: "row i of x starts at cell i × n"
@@ -141,18 +149,6 @@ called x columns marks s = let later = reading s in cond (fits x columns marks) 
 abbrev pub answerOf : Reading → TableRead
 answerOf (Reading.refused q p) = Refused q p
 answerOf (Reading.table n es) = Read n (length es)
-
--- what an answer says, case by case, in the paper's numbers
-pub record ReadReport : Type 0 where
-  pub accepted : Bool
-  pub number : ℕ
-  pub place : ℕ
-  pub sectors : ℕ
-  pub named : ℕ
-
-abbrev pub reportRead : TableRead → ReadReport
-reportRead (Read n k) = record { accepted = true; number = 0; place = 0; sectors = n; named = k }
-reportRead (Refused q p) = record { accepted = false; number = q; place = p; sectors = 0; named = 0 }
 
 -- what the call leaves in the slice that is lent for x: after a refusal 0, in the slice's own length
 abbrev pub flowsRead : ℕ → Reading → List ℕ

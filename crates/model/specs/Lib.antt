@@ -7,4 +7,7 @@ pub mod Calls
 pub mod Promises
 pub mod File
 pub mod Text
+pub mod Figures
 pub mod Page
+pub mod Bytes
+pub mod Contracts

@@ -5,9 +5,16 @@ use Prim.Native.Nat.{ℕ, zero, suc, _+_, _*_, _/_, _%_, max}
 use lib.Dec.{eqb}
 use lib.ListN.{getD}
 
+-- the cells of a slice, and a sheet of coefficients by row and column
+abbrev pub Cells : Type 0
+Cells = List ℕ
+
+abbrev pub Sheet : Type 0
+Sheet = ℕ → ℕ → ℕ
+
 -- "One", the unit of shares and coefficients: they are whole millionths
 abbrev pub one : ℕ
-one = 1000000
+one = 1_000_000
 
 -- f 0 + .. + f (n - 1)
 abbrev pub sum : ℕ → (ℕ → ℕ) → ℕ

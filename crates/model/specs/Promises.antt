@@ -9,7 +9,7 @@ use Rattle.model.specs.Rounds.{Settles, ExactBalance, shortfall}
 
 -- question 7 is answered yes
 abbrev pub LowColumns : ℕ → (ℕ → ℕ → ℕ) → Type 0
-LowColumns n c = (j : ℕ) → j < n → sum n (transposed c j) ≤ 950000
+LowColumns n c = (j : ℕ) → j < n → sum n (transposed c j) ≤ 950_000
 
 -- A domestic sheet is accepted: n from 1 to 40, n × n cells, question 7 answered yes
 pub record AcceptedMatrix (n : ℕ) (d : List ℕ) : Type 0 where

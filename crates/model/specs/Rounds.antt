@@ -6,7 +6,7 @@ use mathlib.Core.List.{List, []}
 use Prim.Native.Nat.{ℕ, zero, suc, _+_, _*_, _-_, _/_, _≤_, _<_}
 use lib.Dec.{eqb, leb, ltb}
 use lib.ListN.{length, take, drop}
-use Rattle.model.specs.Numbers.{one, sum, largest, first, tabulate, cell, same, at, matrix, transposed}
+use Rattle.model.specs.Numbers.{Cells, Sheet, one, sum, largest, first, tabulate, cell, same, at, matrix, transposed}
 use Rattle.model.specs.Table.{portion}
 
 -- c(i,j) × amount(j)
@@ -21,27 +21,28 @@ weighted n c a i = sum n (product c a i)
 unfoldable pub intermediate : ℕ → (ℕ → ℕ → ℕ) → (ℕ → ℕ) → ℕ → ℕ
 intermediate n c a i = weighted n c a i / one
 
--- A round: every sector uses the amounts y of the round before
-unfoldable pub round : ℕ → (ℕ → ℕ → ℕ) → List ℕ → List ℕ → List ℕ
-round n c s y = tabulate n (λ i. cell s i + intermediate n c (cell y) i)
+module _ (n : ℕ) (c : Sheet) (start : Cells) where
+  -- A round: every sector uses the amounts y of the round before
+  unfoldable pub round : (y : Cells) → Cells
+  round y = tabulate n (λ i. cell start i + intermediate n c (cell y) i)
 
--- the amounts after k rounds; the start is s itself
-unfoldable pub rounds : ℕ → (ℕ → ℕ → ℕ) → List ℕ → ℕ → List ℕ
-rounds n c s zero = s
-rounds n c s (suc k) = round n c s (rounds n c s k)
+  -- the amounts after k rounds; the start is the demand itself
+  unfoldable pub rounds : (k : ℕ) → Cells
+  rounds zero = start
+  rounds (suc k) = round (rounds k)
 
--- round k changes a sector. Rounds are counted from 1, and where there is no round nothing has settled
-unfoldable pub changes : ℕ → (ℕ → ℕ → ℕ) → List ℕ → ℕ → Bool
-changes n c s zero = true
-changes n c s (suc k) = not (same n (rounds n c s (suc k)) (rounds n c s k))
+  -- round k changes a sector. Rounds are counted from 1: there is no round 0, and it counts as one that changes
+  unfoldable pub changes : (k : ℕ) → Bool
+  changes zero = true
+  changes (suc k) = not (same n (rounds (suc k)) (rounds k))
 
--- The count of rounds: the least k whose round changes no sector, if it is within the budget; else the budget and 1
-unfoldable pub settling : ℕ → (ℕ → ℕ → ℕ) → List ℕ → ℕ → ℕ
-settling n c s budget = first (suc budget) (changes n c s)
+  -- The count of rounds: the least k whose round changes no sector, if it is within the budget; else one more than the budget
+  unfoldable pub settling : (budget : ℕ) → ℕ
+  settling budget = first (suc budget) changes
 
--- the amounts after that round: the settled production, or price rise
-unfoldable pub settled : ℕ → (ℕ → ℕ → ℕ) → List ℕ → ℕ → List ℕ
-settled n c s budget = rounds n c s (settling n c s budget)
+  -- the amounts after that round: the settled production, or price rise
+  unfoldable pub settled : (budget : ℕ) → Cells
+  settled budget = rounds (settling budget)
 
 -- A start settles, without a budget: round k is the first that changes no sector, and y is the amounts after it
 pub record Settles (n : ℕ) (c : ℕ → ℕ → ℕ) (s : List ℕ) (k : ℕ) (y : List ℕ) : Type 0 where

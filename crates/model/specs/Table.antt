@@ -1,21 +1,38 @@
 -- Document 01, "The table and its units" and "The sheets, all rounded down". A quotient is rounded down, and is 0 where the divisor is 0.
-use mathlib.Core.List.{List}
+use mathlib.Core.List.{List, []}
 use Prim.Native.Nat.{ℕ, _+_, _*_, _-_, _/_}
+use lib.ListN.{getD}
 use Rattle.model.specs.Numbers.{one, sum, cell, at}
 
--- A table: n sectors, x row by row, and the columns F, E, M, V and X
+-- A table: n sectors, x row by row, and its columns of n cells, in the paper's order
 pub record Table : Type 0 where
   pub sectors : ℕ
   pub flows : List ℕ
-  pub finalDemand : List ℕ
-  pub exports : List ℕ
-  pub imports : List ℕ
-  pub valueAdded : List ℕ
-  pub production : List ℕ
+  pub columns : List (List ℕ)
 
-abbrev pub tableOf : ℕ → (x F E M «V» X : List ℕ) → Table
-tableOf n x F E M «V» X =
-    record { sectors = n; flows = x; finalDemand = F; exports = E; imports = M; valueAdded = «V»; production = X }
+abbrev pub tableOf : ℕ → List ℕ → List (List ℕ) → Table
+tableOf n x columns = record { sectors = n; flows = x; columns = columns }
+
+module _ (t : Table) where
+  -- column c, and no cell where the table has no such column
+  abbrev pub column : ℕ → List ℕ
+  column c = getD (t .columns) c []
+
+  -- by their names: F, E, M, V and X
+  abbrev pub finalDemand : List ℕ
+  finalDemand = column 0
+
+  abbrev pub exports : List ℕ
+  exports = column 1
+
+  abbrev pub imports : List ℕ
+  imports = column 2
+
+  abbrev pub valueAdded : List ℕ
+  valueAdded = column 3
+
+  abbrev pub production : List ℕ
+  production = column 4
 
 -- part of whole, in millionths
 abbrev pub share : ℕ → ℕ → ℕ
@@ -35,19 +52,19 @@ module _ (t : Table) where
   flow = at (t .sectors) (t .flows)
 
   abbrev pub need : ℕ → ℕ
-  need = absorption (t .sectors) (t .flows) (t .finalDemand)
+  need = absorption (t .sectors) (t .flows) (finalDemand t)
 
   -- Input coefficient a(i,j)
   unfoldable pub inputCoefficient : ℕ → ℕ → ℕ
-  inputCoefficient i j = share (flow i j) (cell (t .production) j)
+  inputCoefficient i j = share (flow i j) (cell (production t) j)
 
   -- Value share v(j)
   unfoldable pub valueAddedCoefficient : ℕ → ℕ
-  valueAddedCoefficient j = share (cell (t .valueAdded) j) (cell (t .production) j)
+  valueAddedCoefficient j = share (cell (valueAdded t) j) (cell (production t) j)
 
   -- Import share m(i)
   unfoldable pub importCoefficient : ℕ → ℕ
-  importCoefficient i = share (cell (t .imports) i) (need i)
+  importCoefficient i = share (cell (imports t) i) (need i)
 
   -- Domestic coefficient d(i,j)
   unfoldable pub domesticCoefficient : ℕ → ℕ → ℕ
@@ -55,4 +72,4 @@ module _ (t : Table) where
 
   -- Demand for domestic goods f(i): exports come in whole
   unfoldable pub domesticDemand : ℕ → ℕ
-  domesticDemand i = portion (one - importCoefficient i) (cell (t .finalDemand) i) + cell (t .exports) i
+  domesticDemand i = portion (one - importCoefficient i) (cell (finalDemand t) i) + cell (exports t) i

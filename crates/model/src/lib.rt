@@ -17,3 +17,9 @@ pub enum TableRead {
     Read { sectors: usize, named: usize },
     Refused { number: u8, place: usize },
 }
+
+// The call that writes a page: how many bytes the page has, or the number and the place of the first check that fails.
+pub enum PageWritten {
+    Written { length: usize },
+    Refused { number: u8, place: usize },
+}

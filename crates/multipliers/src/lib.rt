@@ -4,15 +4,12 @@ use columns::fill_inverse;
 use dispersion::fill_dispersion;
 use model::Outcome;
 ghost use mathlib.Core.Bool.{_&&_};
-ghost use mathlib.Core.List.{[], _∷_};
 ghost use mathlib.Core.Path.{_≡_};
 ghost use Prim.Native.Nat.{_*_, _<_};
 ghost use lib.Dec.{eqb, leb, ltb};
-ghost use lib.ListN.{length};
-ghost use Rattle.model.specs.Numbers.{at, transposed};
-ghost use Rattle.model.specs.Rounds.{dispersion, inverse, rowSlice};
-ghost use Rattle.model.specs.Checks.{reportRounds, output};
-ghost use Rattle.model.specs.Calls.{inverseReport};
+ghost use Rattle.model.specs.Rounds.{rowSlice};
+ghost use Rattle.model.specs.Checks.{reportRounds};
+ghost use Rattle.model.specs.Contracts.{Inverted};
 
 // Is n from 1 to 40, are there n × n cells, and is the sector below n?
 fn has_row(n: usize, cells: usize, sector: usize) -> bool
@@ -42,8 +39,8 @@ pub fn row<'a>(sheet: &'a [u64], n: usize, sector: usize) -> &'a [u64]
     &sheet[0..0]
 }
 
-// The Leontief inverse of a domestic sheet, with the power and the sensitivity of dispersion of its sectors. No result is left open: number,
-// place, count and every lent cell are those of the definitions.
+// The Leontief inverse of a domestic sheet, with the power and the sensitivity of dispersion of its sectors. What it promises is
+// `Inverted`.
 pub fn inverse(
     n: usize,
     d: &[u64],
@@ -52,10 +49,7 @@ pub fn inverse(
     power: &mut [u64],
     sensitivity: &mut [u64],
 ) -> Outcome
-    ensures answer { λ r. ⌜ reportRounds r ≡ inverseReport n (now (d .entry)) budget (length (now (sheet .entry)) ∷ []) (length (now (power .entry)) ∷ length (now (sensitivity .entry)) ∷ []) ⌝ }
-    ensures sheets { λ r. ⌜ now (sheet .exit) ≡ output (reportRounds r) (length (now (sheet .entry))) (inverse n (now (d .entry)) budget) ⌝ }
-    ensures powers { λ r. ⌜ now (power .exit) ≡ output (reportRounds r) (length (now (power .entry))) (dispersion n (at n (inverse n (now (d .entry)) budget))) ⌝ }
-    ensures sensitivities { λ r. ⌜ now (sensitivity .exit) ≡ output (reportRounds r) (length (now (sensitivity .entry))) (dispersion n (transposed (at n (inverse n (now (d .entry)) budget)))) ⌝ }
+    ensures { λ r. ⌜ Inverted n (now (d .entry)) budget (now (sheet .entry)) (now (power .entry)) (now (sensitivity .entry)) (reportRounds r) (now (sheet .exit)) (now (power .exit)) (now (sensitivity .exit)) ⌝ }
 {
     let outcome = fill_inverse(n, d, budget, power.len(), sensitivity.len(), sheet);
     if let Outcome::Refused { number, place } = outcome {

@@ -1,2 +1,2 @@
--- The page by what the reader answers.
-pub mod Readers
+-- The page by what the reader answers and by the figures of its table.
+pub mod Prints

@@ -1,63 +1,126 @@
-// From the bytes of a table file to the printed page: read, and the page from the table on.
+// From the bytes of a table file to the printed page: read, work out, and only then print.
+use figures::table_figures;
 use lines::put_refusal;
+use lines::put_sheet;
+use model::Outcome;
+use model::PageWritten;
 use model::TableRead;
-use table_file::read_table;
-use table_page::sheets_page;
+use walk::read_flat;
 ghost use mathlib.Core.Path.{_≡_};
 ghost use Prim.Native.Nat.{_≤_};
-ghost use lib.ListN.{length};
+ghost use lib.ListN.{length, replicate};
 ghost use lib.Seq.{sets};
-ghost use Rattle.model.specs.Page.{page, printed};
+ghost use Rattle.model.specs.Checks.{reportPage};
+ghost use Rattle.model.specs.Page.{page};
+ghost use Rattle.model.specs.Contracts.{PagePrinted};
+ghost use Rattle.page.specs.Prints.{pageOf, Small, textOf, Few};
 
-// Reads a table file and writes its page into a buffer that holds it.
-fn file_page(file: &[u8], out: &mut [u8]) -> usize
-    requires { ⌜ length (page (now file)) ≤ length (now out) ⌝ }
-    ensures { λ r. ⌜ r ≡ length (page (now (file .entry))) ⌝ }
-    ensures { λ _. ⌜ now (out .exit) ≡ sets (now (out .entry)) 0 (page (now (file .entry))) ⌝ }
+// What is printed of a file: a refusal's line, or the sheet of the first figures in four slices.
+pub enum Print {
+    Refusal { number: u8, place: usize },
+    Sheet { sectors: usize, rounds: u32 },
+}
+
+// What is printed of what the reader answered and left in the cells, with its figures from the start of four slices.
+fn work_out(
+    read: TableRead,
+    cells: &[u64],
+    f: &mut [u64],
+    y: &mut [u64],
+    value: &mut [u64],
+    imports: &mut [u64],
+) -> Print
+    requires { ⌜ Small read × (length (now cells) ≡ 1840) ⌝ }
+    requires { ⌜ (length (now f) ≡ 40) × (length (now y) ≡ 40) × (length (now value) ≡ 40) × (length (now imports) ≡ 40) ⌝ }
+    ensures { λ r. ⌜ Few r × (textOf r (now (f .exit)) (now (y .exit)) (now (value .exit)) (now (imports .exit)) ≡ pageOf read (now (cells .entry))) ⌝ }
 {
-    let mut x = [0u64; 1600];
-    let mut final_demand = [0u64; 40];
-    let mut exports = [0u64; 40];
-    let mut imports = [0u64; 40];
-    let mut value_added = [0u64; 40];
-    let mut production = [0u64; 40];
-    let mut rises = [0u64; 40];
-    let mut marks = [0u64; 46];
-    let read = read_table(
-        file,
-        &mut x,
-        &mut final_demand,
-        &mut exports,
-        &mut imports,
-        &mut value_added,
-        &mut production,
-        &mut rises,
-        &mut marks,
-    );
     match read {
-        TableRead::Refused { number, place } => put_refusal(number, place, out),
-        TableRead::Read { sectors, named } => sheets_page(
+        TableRead::Refused { number, place } => Print::Refusal { number, place },
+        TableRead::Read { sectors, named: _ } => {
+            let outcome = table_figures(
+                sectors,
+                cells,
+                &mut f[0..sectors],
+                &mut y[0..sectors],
+                &mut value[0..sectors],
+                &mut imports[0..sectors],
+            );
+            match outcome {
+                Outcome::Refused { number, place } => Print::Refusal { number, place },
+                Outcome::Settled { rounds } => Print::Sheet { sectors, rounds },
+            }
+        }
+    }
+}
+
+// Writes it from the start of a buffer that holds it.
+fn put_print(
+    print: Print,
+    f: &[u64],
+    y: &[u64],
+    value: &[u64],
+    imports: &[u64],
+    out: &mut [u8],
+) -> usize
+    requires { ⌜ Few print × (length (now f) ≡ 40) × (length (now y) ≡ 40) × (length (now value) ≡ 40) × (length (now imports) ≡ 40) ⌝ }
+    requires { ⌜ length (textOf print (now f) (now y) (now value) (now imports)) ≤ length (now out) ⌝ }
+    ensures { λ r. ⌜ r ≡ length (textOf print (now (f .entry)) (now (y .entry)) (now (value .entry)) (now (imports .entry))) ⌝ }
+    ensures { λ _. ⌜ now (out .exit) ≡ sets (now (out .entry)) 0 (textOf print (now (f .entry)) (now (y .entry)) (now (value .entry)) (now (imports .entry))) ⌝ }
+{
+    match print {
+        Print::Refusal { number, place } => put_refusal(number, place, out),
+        Print::Sheet { sectors, rounds } => put_sheet(
             sectors,
-            &x,
-            &final_demand,
-            &exports,
-            &imports,
-            &value_added,
-            &production,
+            &f[0..sectors],
+            &y[0..sectors],
+            &value[0..sectors],
+            &imports[0..sectors],
+            rounds,
             out,
         ),
     }
 }
 
-// Reads a table file of any bytes and writes its page. Into a buffer of fewer than 2,851 bytes, which some page would not fit, nothing is
-// written, and the answer is 0.
-pub fn write_page(file: &[u8], out: &mut [u8]) -> usize
-    ensures { λ r. ⌜ r ≡ length (printed (length (now (out .entry))) (now (file .entry))) ⌝ }
-    ensures { λ _. ⌜ now (out .exit) ≡ sets (now (out .entry)) 0 (printed (length (now (out .entry))) (now (file .entry))) ⌝ }
-    ensures { λ r. ⌜ r ≤ length (now (out .entry)) ⌝ }
+// Reads a file, works out what is printed of it, and prints that.
+fn file_page(file: &[u8], out: &mut [u8]) -> usize
+    requires { ⌜ length (page (now file)) ≤ length (now out) ⌝ }
+    ensures { λ r. ⌜ r ≡ length (page (now (file .entry))) ⌝ }
+    ensures { λ _. ⌜ now (out .exit) ≡ sets (now (out .entry)) 0 (page (now (file .entry))) ⌝ }
 {
-    if out.len() < 2851 {
-        return 0;
+    let mut cells = [0u64; 1840];
+    let mut marks = [0u64; 46];
+    let read = read_flat(file, &mut cells, &mut marks);
+    let mut f = [0u64; 40];
+    let mut y = [0u64; 40];
+    let mut value = [0u64; 40];
+    let mut imports = [0u64; 40];
+    let print = work_out(read, &cells, &mut f, &mut y, &mut value, &mut imports);
+    put_print(print, &f, &y, &value, &imports, out)
+}
+
+// Sets every byte to 0.
+fn clear(out: &mut [u8])
+    ensures { λ _. ⌜ now (out .exit) ≡ replicate (length (now (out .entry))) 0 ⌝ }
+{
+    let mut i = 0;
+    while i < out.len() {
+        out[i] = 0;
+        i += 1;
     }
-    file_page(file, out)
+}
+
+// Reads a table file of any bytes and writes its page into a buffer of 2,851 bytes, which holds every page; the bytes after the page are 0. A
+// buffer of another length is refused with 2, and every byte of it is 0. What it promises is `PagePrinted`.
+pub fn write_page(file: &[u8], out: &mut [u8]) -> PageWritten
+    ensures { λ r. ⌜ PagePrinted (now (file .entry)) (now (out .entry)) (reportPage r) (now (out .exit)) ⌝ }
+{
+    clear(out);
+    if out.len() != 2851 {
+        return PageWritten::Refused {
+            number: 2,
+            place: 0,
+        };
+    }
+    let length = file_page(file, out);
+    PageWritten::Written { length }
 }

@@ -2,6 +2,7 @@
 // that decide every input's page, so that a longer input needs no more of it.
 use libc::STDIN_FILENO;
 use libc::STDOUT_FILENO;
+use model::PageWritten;
 use page::write_page;
 ghost use lib.ListN.{length};
 ghost use Rattle.program.specs.Inputs.{Inside};
@@ -31,12 +32,23 @@ fn read_input(buffer: &mut [u8]) -> Input
     Input::Came { count }
 }
 
-// Writes the page of a table file to standard output.
+// Writes bytes to standard output.
+fn print(bytes: &[u8]) {
+    if !io::write_all(STDOUT_FILENO, bytes) {
+        os::fail(b"roadsheet: standard output");
+    }
+}
+
+// Writes the page of a table file to standard output. The buffer has the length that the page call asks for.
 pub fn print_page(file: &[u8]) {
     let mut out = [0u8; 2851];
-    let count = write_page(file, &mut out);
-    if !io::write_all(STDOUT_FILENO, &out[..count]) {
-        os::fail(b"roadsheet: standard output");
+    let answer = write_page(file, &mut out);
+    match answer {
+        PageWritten::Refused {
+            number: _,
+            place: _,
+        } => os::fail(b"roadsheet: page"),
+        PageWritten::Written { length } => print(&out[..length]),
     }
 }
 

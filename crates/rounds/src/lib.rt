@@ -5,16 +5,15 @@ use checks::check_domestic;
 use model::Answer;
 use model::Outcome;
 use settling::settle;
-ghost use mathlib.Core.Bool.{true};
 ghost use mathlib.Core.List.{[], _∷_, _++_};
 ghost use mathlib.Core.Path.{_≡_};
 ghost use Prim.Native.Nat.{_≤_};
 ghost use lib.ListN.{length, replicate};
-ghost use Rattle.model.specs.Numbers.{at, oriented, transposed};
+ghost use Rattle.model.specs.Numbers.{at, oriented};
 ghost use Rattle.model.specs.Rounds.{settled};
 ghost use Rattle.model.specs.Checks.{report, reportRounds, verdict, output, bounded, demandLimit};
-ghost use Rattle.model.specs.Calls.{matrixChecks, priceReport, productionReport, settlingReport};
-ghost use Rattle.model.specs.Promises.{Accurate, AccuratePrices, Distinguishes};
+ghost use Rattle.model.specs.Calls.{matrixChecks, settlingReport};
+ghost use Rattle.model.specs.Contracts.{Priced, Produced};
 
 // Questions 1, 2, 7 and 8 of a start and its limit.
 fn check_start(
@@ -25,7 +24,7 @@ fn check_start(
     out_len: usize,
     work_len: usize,
 ) -> Answer
-    ensures { λ r. ⌜ report r ≡ verdict (matrixChecks n (now (d .entry)) [] (length (now (start .entry)) ∷ «out_len» ∷ «work_len» ∷ []) ++ (bounded 8 0 limit (now (start .entry)) ∷ [])) 0 ⌝ }
+    ensures { λ r. ⌜ report r ≡ verdict (matrixChecks n (now (d .entry)) [] (length (now (start .entry)) ∷ «out_len» ∷ «work_len» ∷ []) ++ (bounded 8 0 limit (now (start .entry)) ∷ [])) [] ⌝ }
 {
     let lent = [start.len(), out_len, work_len];
     let matrix = check_domestic(n, d, &lent);
@@ -62,9 +61,7 @@ fn solve(
     }
 }
 
-// Production from a demand for domestic goods. No result is left open: number, place, count and every lent cell are those of the definitions.
-// Demand 3 is carried by the last two clauses: an accepted production differs from that of every other demand, and only from those; and
-// against every exact balance it is nowhere too high, and all sectors together lack less than 20 × n.
+// Production from a demand for domestic goods. What it promises is `Produced`.
 pub fn production(
     n: usize,
     d: &[u64],
@@ -73,17 +70,12 @@ pub fn production(
     out: &mut [u64],
     work: &mut [u64],
 ) -> Outcome
-    ensures answer { λ r. ⌜ reportRounds r ≡ productionReport n (now (d .entry)) (now (f .entry)) budget (length (now (out .entry)) ∷ length (now (work .entry)) ∷ []) ⌝ }
-    ensures outputs { λ r. ⌜ now (out .exit) ≡ output (reportRounds r) (length (now (out .entry))) (settled n (at n (now (d .entry))) (now (f .entry)) budget) ⌝ }
-    ensures cleared { λ _. ⌜ now (work .exit) ≡ replicate (length (now (work .entry))) 0 ⌝ }
-    ensures distinct { λ r. ⌜ (reportRounds r .accepted ≡ true → Distinguishes n (now (d .entry)) (now (f .entry)) (now (out .exit))) ⌝ }
-    ensures accurate { λ r. ⌜ (reportRounds r .accepted ≡ true → Accurate n (now (d .entry)) (now (f .entry)) (now (out .exit))) ⌝ }
+    ensures { λ r. ⌜ Produced n (now (d .entry)) (now (f .entry)) budget (now (out .entry)) (now (work .entry)) (reportRounds r) (now (out .exit)) (now (work .exit)) ⌝ }
 {
     solve(n, d, false, 2_000_000_000, f, budget, out, work)
 }
 
-// Price rises from direct rises, in millionths. No result is left open. Its accuracy is carried by the last clause: against every exact balance
-// of the column direction an accepted rise is nowhere above it, and in each sector lacks less than 20 millionths.
+// Price rises from direct rises, in millionths. What it promises is `Priced`.
 pub fn price(
     n: usize,
     d: &[u64],
@@ -92,10 +84,7 @@ pub fn price(
     out: &mut [u64],
     work: &mut [u64],
 ) -> Outcome
-    ensures answer { λ r. ⌜ reportRounds r ≡ priceReport n (now (d .entry)) (now (w .entry)) budget (length (now (out .entry)) ∷ length (now (work .entry)) ∷ []) ⌝ }
-    ensures outputs { λ r. ⌜ now (out .exit) ≡ output (reportRounds r) (length (now (out .entry))) (settled n (transposed (at n (now (d .entry)))) (now (w .entry)) budget) ⌝ }
-    ensures cleared { λ _. ⌜ now (work .exit) ≡ replicate (length (now (work .entry))) 0 ⌝ }
-    ensures accurate { λ r. ⌜ (reportRounds r .accepted ≡ true → AccuratePrices n (now (d .entry)) (now (w .entry)) (now (out .exit))) ⌝ }
+    ensures { λ r. ⌜ Priced n (now (d .entry)) (now (w .entry)) budget (now (out .entry)) (now (work .entry)) (reportRounds r) (now (out .exit)) (now (work .exit)) ⌝ }
 {
     solve(n, d, true, 1_000_000_000, w, budget, out, work)
 }

@@ -119,7 +119,7 @@ pub fn settle(
 ) -> Outcome
     requires { ⌜ AcceptedMatrix n (now d) × (length (now start) ≡ n) × (length (now out) ≡ n) × (length (now work) ≡ n) ⌝ }
     requires { ⌜ ((i : ℕ) → i < n → cell (now start) i ≤ demandLimit) ⌝ }
-    ensures { λ r. ⌜ reportRounds r ≡ verdict (single 9 (settles n (oriented transposed (at n (now (d .entry)))) (now (start .entry)) budget) ∷ []) (settling n (oriented transposed (at n (now (d .entry)))) (now (start .entry)) budget) ⌝ }
+    ensures { λ r. ⌜ reportRounds r ≡ verdict (single 9 (settles n (oriented transposed (at n (now (d .entry)))) (now (start .entry)) budget) ∷ []) (settling n (oriented transposed (at n (now (d .entry)))) (now (start .entry)) budget ∷ []) ⌝ }
     ensures { λ r. ⌜ now (out .exit) ≡ output (reportRounds r) n (settled n (oriented transposed (at n (now (d .entry)))) (now (start .entry)) budget) ⌝ }
     ensures { λ _. ⌜ now (work .exit) ≡ replicate n 0 ⌝ }
 {

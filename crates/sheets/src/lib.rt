@@ -1,6 +1,5 @@
 // The sheets of a table, filled one at a time: input coefficients, shares, domestic coefficients and demand for domestic goods.
 use balances::need_of;
-use cells::fill_zero;
 use cells::portion_of;
 use cells::share_of;
 use checks::columns_within;
@@ -8,15 +7,15 @@ use model::Answer;
 ghost use mathlib.Core.List.{[], _∷_};
 ghost use mathlib.Core.Path.{_≡_};
 ghost use Prim.Native.Nat.{ℕ, _+_, _*_, _-_, _<_, _≤_};
-ghost use lib.ListN.{length, replicate};
+ghost use lib.ListN.{length};
 ghost use Rattle.model.specs.Numbers.{at, cell, matrix, one, tabulate};
 ghost use Rattle.model.specs.Table.{absorption, portion, share};
-ghost use Rattle.model.specs.Checks.{amountLimit, columnSums, output, report, verdict};
+ghost use Rattle.model.specs.Checks.{amountLimit, columnSums, report, verdict};
 
 // Shares of the columns of x: each flow's part of the production of the sector that buys.
 pub fn fill_inputs(n: usize, x: &[u64], production: &[u64], a: &mut [u64])
     requires { ⌜ (1 ≤ n) × (n ≤ 40) × (length (now x) ≡ n * n) × (length (now production) ≡ n) × (length (now a) ≡ n * n) ⌝ }
-    requires { ⌜ ((k : ℕ) → k < n * n → cell (now x) k ≤ amountLimit) ⌝ }
+    requires { ⌜ ((k : ℕ) → cell (now x) k ≤ amountLimit) ⌝ }
     ensures { λ _. ⌜ now (a .exit) ≡ matrix n (λ i j. share (at n (now (x .entry)) i j) (cell (now (production .entry)) j)) ⌝ }
 {
     let cells = n * n;
@@ -28,7 +27,7 @@ pub fn fill_inputs(n: usize, x: &[u64], production: &[u64], a: &mut [u64])
 // Each sector's part of a whole: value added of production.
 pub fn fill_shares(n: usize, part: &[u64], whole: &[u64], out: &mut [u64])
     requires { ⌜ (length (now part) ≡ n) × (length (now whole) ≡ n) × (length (now out) ≡ n) ⌝ }
-    requires { ⌜ ((k : ℕ) → k < n → cell (now part) k ≤ amountLimit) ⌝ }
+    requires { ⌜ ((k : ℕ) → cell (now part) k ≤ amountLimit) ⌝ }
     ensures { λ _. ⌜ now (out .exit) ≡ tabulate n (λ j. share (cell (now (part .entry)) j) (cell (now (whole .entry)) j)) ⌝ }
 {
     for j in 0..n {
@@ -39,9 +38,9 @@ pub fn fill_shares(n: usize, part: &[u64], whole: &[u64], out: &mut [u64])
 // Import shares: imports of the domestic need.
 pub fn fill_imports(n: usize, x: &[u64], final_demand: &[u64], imports: &[u64], m: &mut [u64])
     requires { ⌜ (n ≤ 40) × (length (now x) ≡ n * n) × (length (now «final_demand») ≡ n) × (length (now imports) ≡ n) × (length (now m) ≡ n) ⌝ }
-    requires { ⌜ ((k : ℕ) → k < n * n → cell (now x) k ≤ amountLimit) ⌝ }
-    requires { ⌜ ((k : ℕ) → k < n → cell (now «final_demand») k ≤ amountLimit) ⌝ }
-    requires { ⌜ ((k : ℕ) → k < n → cell (now imports) k ≤ amountLimit) ⌝ }
+    requires { ⌜ ((k : ℕ) → cell (now x) k ≤ amountLimit) ⌝ }
+    requires { ⌜ ((k : ℕ) → cell (now «final_demand») k ≤ amountLimit) ⌝ }
+    requires { ⌜ ((k : ℕ) → cell (now imports) k ≤ amountLimit) ⌝ }
     ensures { λ _. ⌜ now (m .exit) ≡ tabulate n (λ i. share (cell (now (imports .entry)) i) (absorption n (now (x .entry)) (now («final_demand» .entry)) i)) ⌝ }
 {
     for i in 0..n {
@@ -67,7 +66,7 @@ fn fill_domestic(n: usize, a: &[u64], m: &[u64], d: &mut [u64])
 fn fill_demand(n: usize, m: &[u64], final_demand: &[u64], exports: &[u64], f: &mut [u64])
     requires { ⌜ (length (now m) ≡ n) × (length (now «final_demand») ≡ n) × (length (now exports) ≡ n) × (length (now f) ≡ n) ⌝ }
     requires { ⌜ ((k : ℕ) → k < n → cell (now m) k ≤ one) ⌝ }
-    requires { ⌜ ((k : ℕ) → k < n → (cell (now «final_demand») k ≤ amountLimit) × (cell (now exports) k ≤ amountLimit)) ⌝ }
+    requires { ⌜ ((k : ℕ) → (cell (now «final_demand») k ≤ amountLimit) × (cell (now exports) k ≤ amountLimit)) ⌝ }
     ensures { λ _. ⌜ now (f .exit) ≡ tabulate n (λ i. portion (one - cell (now (m .entry)) i) (cell (now («final_demand» .entry)) i) + cell (now (exports .entry)) i) ⌝ }
 {
     for i in 0..n {
@@ -76,49 +75,25 @@ fn fill_demand(n: usize, m: &[u64], final_demand: &[u64], exports: &[u64], f: &m
     }
 }
 
-// Sets every cell of the five outputs to 0.
-pub fn clear(a: &mut [u64], v: &mut [u64], m: &mut [u64], d: &mut [u64], f: &mut [u64])
-    ensures { λ _. ⌜ now (a .exit) ≡ replicate (length (now (a .entry))) 0 ⌝ }
-    ensures { λ _. ⌜ now (v .exit) ≡ replicate (length (now (v .entry))) 0 ⌝ }
-    ensures { λ _. ⌜ now (m .exit) ≡ replicate (length (now (m .entry))) 0 ⌝ }
-    ensures { λ _. ⌜ now (d .exit) ≡ replicate (length (now (d .entry))) 0 ⌝ }
-    ensures { λ _. ⌜ now (f .exit) ≡ replicate (length (now (f .entry))) 0 ⌝ }
-{
-    fill_zero(a);
-    fill_zero(v);
-    fill_zero(m);
-    fill_zero(d);
-    fill_zero(f);
-}
-
-// d and f from a and m, with question 7 of d. Where that refuses, all five outputs are cleared.
+// d and f from a and m, and question 7 of d.
 pub fn finish(
     n: usize,
+    a: &[u64],
+    m: &[u64],
     final_demand: &[u64],
     exports: &[u64],
-    a: &mut [u64],
-    v: &mut [u64],
-    m: &mut [u64],
     d: &mut [u64],
     f: &mut [u64],
 ) -> Answer
-    requires { ⌜ (1 ≤ n) × (n ≤ 40) × (length (now «final_demand») ≡ n) × (length (now exports) ≡ n) × (length (now a) ≡ n * n) × (length (now m) ≡ n) × (length (now d) ≡ n * n) × (length (now f) ≡ n) ⌝ }
+    requires { ⌜ (1 ≤ n) × (n ≤ 40) × (length (now a) ≡ n * n) × (length (now m) ≡ n) × (length (now «final_demand») ≡ n) × (length (now exports) ≡ n) × (length (now d) ≡ n * n) × (length (now f) ≡ n) ⌝ }
     requires { ⌜ ((k : ℕ) → k < n * n → cell (now a) k ≤ one) ⌝ }
     requires { ⌜ ((k : ℕ) → k < n → cell (now m) k ≤ one) ⌝ }
-    requires { ⌜ ((k : ℕ) → k < n → (cell (now «final_demand») k ≤ amountLimit) × (cell (now exports) k ≤ amountLimit)) ⌝ }
-    ensures { λ r. ⌜ report r ≡ verdict (columnSums n (at n (matrix n (λ i j. portion (one - cell (now (m .entry)) i) (at n (now (a .entry)) i j)))) ∷ []) 0 ⌝ }
-    ensures { λ r. ⌜ now (a .exit) ≡ output (report r) (length (now (a .entry))) (now (a .entry)) ⌝ }
-    ensures { λ r. ⌜ now (v .exit) ≡ output (report r) (length (now (v .entry))) (now (v .entry)) ⌝ }
-    ensures { λ r. ⌜ now (m .exit) ≡ output (report r) (length (now (m .entry))) (now (m .entry)) ⌝ }
-    ensures { λ r. ⌜ now (d .exit) ≡ output (report r) (length (now (d .entry))) (matrix n (λ i j. portion (one - cell (now (m .entry)) i) (at n (now (a .entry)) i j))) ⌝ }
-    ensures { λ r. ⌜ now (f .exit) ≡ output (report r) (length (now (f .entry))) (tabulate n (λ i. portion (one - cell (now (m .entry)) i) (cell (now («final_demand» .entry)) i) + cell (now (exports .entry)) i)) ⌝ }
+    requires { ⌜ ((k : ℕ) → (cell (now «final_demand») k ≤ amountLimit) × (cell (now exports) k ≤ amountLimit)) ⌝ }
+    ensures { λ r. ⌜ report r ≡ verdict (columnSums n (at n (now (d .exit))) ∷ []) [] ⌝ }
+    ensures { λ _. ⌜ now (d .exit) ≡ matrix n (λ i j. portion (one - cell (now (m .entry)) i) (at n (now (a .entry)) i j)) ⌝ }
+    ensures { λ _. ⌜ now (f .exit) ≡ tabulate n (λ i. portion (one - cell (now (m .entry)) i) (cell (now («final_demand» .entry)) i) + cell (now (exports .entry)) i) ⌝ }
 {
     fill_domestic(n, a, m, d);
     fill_demand(n, m, final_demand, exports, f);
-    let columns = columns_within(n, d);
-    if let Answer::Refused { number, place } = columns {
-        clear(a, v, m, d, f);
-        return Answer::Refused { number, place };
-    }
-    Answer::Accepted
+    columns_within(n, d)
 }

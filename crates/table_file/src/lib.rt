@@ -8,9 +8,11 @@ ghost use mathlib.Core.List.{List, [], _∷_};
 ghost use mathlib.Core.Path.{_≡_};
 ghost use Prim.Native.Nat.{ℕ, _+_, _≤_};
 ghost use lib.ListN.{length, replicate};
+ghost use Rattle.model.specs.Checks.{reportRead};
+ghost use Rattle.model.specs.Contracts.{Delivered, FileRead, readingInto, slicesOf};
 ghost use Rattle.model.specs.File.{Reading, fits, called, answerOf};
 ghost use Rattle.walk.specs.Steps.{Held};
-ghost use Rattle.table_file.specs.Reader.{Put, Delivered};
+ghost use Rattle.table_file.specs.Reader.{Put};
 
 // A part of the cells, into a slice of its length; a slice of another length is set to 0.
 fn put_part(cells: &[u64], from: usize, count: usize, out: &mut [u64])
@@ -36,11 +38,11 @@ fn deliver(
     rises: &mut [u64],
 )
     requires { ⌜ length (now cells) ≡ 1840 ⌝ }
-    ensures { λ _. ⌜ ((marks : ℕ) (s : List ℕ) (o : Reading) → o ≡ called (length (now (x .entry)))
-        (length (now («final_demand» .entry)) ∷ length (now (exports .entry)) ∷ length (now (imports .entry)) ∷ length (now («value_added» .entry)) ∷ length (now (production .entry)) ∷ length (now (rises .entry)) ∷ [])
-        marks s → Held o (now (cells .entry)) → Delivered o
-        (now (x .entry)) (now («final_demand» .entry)) (now (exports .entry)) (now (imports .entry)) (now («value_added» .entry)) (now (production .entry)) (now (rises .entry))
-        (now (x .exit)) (now («final_demand» .exit)) (now (exports .exit)) (now (imports .exit)) (now («value_added» .exit)) (now (production .exit)) (now (rises .exit))) ⌝ }
+    ensures { λ _. ⌜ ((marks s : List ℕ) (o : Reading) → o ≡ readingInto s
+        (slicesOf (now (x .entry)) (now («final_demand» .entry)) (now (exports .entry)) (now (imports .entry)) (now («value_added» .entry)) (now (production .entry)) (now (rises .entry))) marks
+        → Held o (now (cells .entry)) → Delivered o
+        (slicesOf (now (x .entry)) (now («final_demand» .entry)) (now (exports .entry)) (now (imports .entry)) (now («value_added» .entry)) (now (production .entry)) (now (rises .entry)))
+        (slicesOf (now (x .exit)) (now («final_demand» .exit)) (now (exports .exit)) (now (imports .exit)) (now («value_added» .exit)) (now (production .exit)) (now (rises .exit)))) ⌝ }
 {
     put_part(cells, 0, 1600, x);
     put_part(cells, 1600, 40, final_demand);
@@ -87,7 +89,8 @@ fn read_called(
     read_flat(file, cells, marks)
 }
 
-// Reads a table file of any bytes into slices of any lengths. After a refusal every slice is 0; the marks are 0 after every call.
+// Reads a table file of any bytes into slices of any lengths. After a refusal every slice is 0; the marks are 0 after every call. What it promises is
+// `FileRead`.
 pub fn read_table(
     file: &[u8],
     x: &mut [u64],
@@ -99,15 +102,9 @@ pub fn read_table(
     rises: &mut [u64],
     marks: &mut [u64],
 ) -> TableRead
-    ensures { λ q. ⌜ q ≡ answerOf (called (length (now (x .entry)))
-        (length (now («final_demand» .entry)) ∷ length (now (exports .entry)) ∷ length (now (imports .entry)) ∷ length (now («value_added» .entry)) ∷ length (now (production .entry)) ∷ length (now (rises .entry)) ∷ [])
-        (length (now (marks .entry))) (now (file .entry))) ⌝ }
-    ensures { λ _. ⌜ Delivered (called (length (now (x .entry)))
-        (length (now («final_demand» .entry)) ∷ length (now (exports .entry)) ∷ length (now (imports .entry)) ∷ length (now («value_added» .entry)) ∷ length (now (production .entry)) ∷ length (now (rises .entry)) ∷ [])
-        (length (now (marks .entry))) (now (file .entry)))
-        (now (x .entry)) (now («final_demand» .entry)) (now (exports .entry)) (now (imports .entry)) (now («value_added» .entry)) (now (production .entry)) (now (rises .entry))
-        (now (x .exit)) (now («final_demand» .exit)) (now (exports .exit)) (now (imports .exit)) (now («value_added» .exit)) (now (production .exit)) (now (rises .exit)) ⌝ }
-    ensures { λ _. ⌜ now (marks .exit) ≡ replicate (length (now (marks .entry))) 0 ⌝ }
+    ensures { λ r. ⌜ FileRead (now (file .entry))
+        (slicesOf (now (x .entry)) (now («final_demand» .entry)) (now (exports .entry)) (now (imports .entry)) (now («value_added» .entry)) (now (production .entry)) (now (rises .entry))) (now (marks .entry)) (reportRead r)
+        (slicesOf (now (x .exit)) (now («final_demand» .exit)) (now (exports .exit)) (now (imports .exit)) (now («value_added» .exit)) (now (production .exit)) (now (rises .exit))) (now (marks .exit)) ⌝ }
 {
     let columns = [
         final_demand.len(),

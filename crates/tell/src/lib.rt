@@ -1,14 +1,15 @@
 // Answers told through lent numbers, for callers that have no enums. A refusal's counts are 0.
 use model::Answer;
 use model::Outcome;
+use model::PageWritten;
 use model::TableRead;
-ghost use Rattle.model.specs.Checks.{report, reportRounds};
-ghost use Rattle.model.specs.File.{reportRead};
-ghost use Rattle.tell.specs.Told.{Told, ToldRead, ToldRounds};
+ghost use mathlib.Core.List.{[], _∷_};
+ghost use Rattle.model.specs.Checks.{report, reportPage, reportRead, reportRounds};
+ghost use Rattle.tell.specs.Told.{Told};
 
 // An answer without a count.
 pub fn tell_answer(answer: Answer, number: &mut u8, place: &mut usize)
-    ensures { λ _. ⌜ Told (report answer) (now (number .exit)) (now (place .exit)) ⌝ }
+    ensures { λ _. ⌜ Told (report answer) (now (number .exit)) (now (place .exit)) [] ⌝ }
 {
     match answer {
         Answer::Refused {
@@ -27,7 +28,7 @@ pub fn tell_answer(answer: Answer, number: &mut u8, place: &mut usize)
 
 // An answer with a count of rounds.
 pub fn tell_outcome(outcome: Outcome, number: &mut u8, place: &mut usize, rounds: &mut u32)
-    ensures { λ _. ⌜ ToldRounds (reportRounds outcome) (now (number .exit)) (now (place .exit)) (now (rounds .exit)) ⌝ }
+    ensures { λ _. ⌜ Told (reportRounds outcome) (now (number .exit)) (now (place .exit)) (now (rounds .exit) ∷ []) ⌝ }
 {
     match outcome {
         Outcome::Refused {
@@ -54,7 +55,7 @@ pub fn tell_read(
     sectors: &mut usize,
     named: &mut usize,
 )
-    ensures { λ _. ⌜ ToldRead (reportRead answer) (now (number .exit)) (now (place .exit)) (now (sectors .exit)) (now (named .exit)) ⌝ }
+    ensures { λ _. ⌜ Told (reportRead answer) (now (number .exit)) (now (place .exit)) (now (sectors .exit) ∷ now (named .exit) ∷ []) ⌝ }
 {
     match answer {
         TableRead::Refused {
@@ -74,6 +75,27 @@ pub fn tell_read(
             *place = 0;
             *sectors = n;
             *named = k;
+        }
+    }
+}
+
+// The page call's answer.
+pub fn tell_page(answer: PageWritten, number: &mut u8, place: &mut usize, length: &mut usize)
+    ensures { λ _. ⌜ Told (reportPage answer) (now (number .exit)) (now (place .exit)) (now (length .exit) ∷ []) ⌝ }
+{
+    match answer {
+        PageWritten::Refused {
+            number: q,
+            place: p,
+        } => {
+            *number = q;
+            *place = p;
+            *length = 0;
+        }
+        PageWritten::Written { length: k } => {
+            *number = 0;
+            *place = 0;
+            *length = k;
         }
     }
 }

@@ -45,8 +45,8 @@ module _ (n : ℕ) (c e : ℕ → ℕ → ℕ) (alike : Alike n c e) where
 
     -- question 9, and what settles
     nine-alike : (budget : ℕ)
-        → verdict (single 9 (settles n c s budget) ∷ []) (settling n c s budget) ≡ verdict (single 9 (settles n e s budget) ∷ []) (settling n e s budget)
-    nine-alike budget = ap (λ (k : ℕ). verdict (single 9 (leb k budget) ∷ []) k) (settling-alike budget)
+        → verdict (single 9 (settles n c s budget) ∷ []) (settling n c s budget ∷ []) ≡ verdict (single 9 (settles n e s budget) ∷ []) (settling n e s budget ∷ [])
+    nine-alike budget = ap (λ (k : ℕ). verdict (single 9 (leb k budget) ∷ []) (k ∷ [])) (settling-alike budget)
 
     settles-alike : {k : ℕ} {y : List ℕ} → Settles n c s k y → Settles n e s k y
     settles-alike {k} σ =

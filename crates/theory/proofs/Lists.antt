@@ -13,6 +13,7 @@ use lib.ListN.{length, set, replicate, take, length-replicate, getD-replicate}
 use lib.Seq.{ext-getD, getD-set-same, getD-set-other, length-take-le, getD-take}
 use Rattle.model.specs.Numbers.{first, all, tabulate, cell, same}
 use Rattle.model.specs.Promises.{Equal}
+use Rattle.theory.specs.Slices.{Each}
 use Rattle.theory.proofs.Sums.{upto}
 
 -- ---- a list that is written from the front
@@ -132,6 +133,11 @@ and-last-false false = refl
 -- every length of a list is n
 pub all-equal : (n x : ℕ) (xs : List ℕ) → all (eqb n) (x ∷ xs) ≡ true → (x ≡ n) × (all (eqb n) xs ≡ true)
 all-equal n x xs e = let p = and-true (eqb n x) (all (eqb n) xs) e in (sym (eqb-true n x (p .0)), p .1)
+
+-- and each of them
+pub each-equal : (n : ℕ) (xs : List ℕ) → all (eqb n) xs ≡ true → Each n xs
+each-equal n [] e = tt
+each-equal n (x ∷ xs) e = let p = all-equal n x xs e in (p .0, each-equal n xs (p .1))
 
 -- by a scan: where every number of a list passes, and where one does not
 pub all-passed : (p : ℕ → Bool) (xs : List ℕ) → ((k : ℕ) → k < length xs → p (cell xs k) ≡ true) → all p xs ≡ true

@@ -7,19 +7,20 @@ use Prim.Native.Nat.{ℕ, suc, _≤_, _<_}
 use native.Mathlib.Omega.{arith}
 use native.Mathlib.Nat.{le-refl, le-trans}
 use borrow.Author.Tests.{le-leb, eq-eqb}
-use lib.ListN.{length}
+use lib.ListN.{length, replicate}
 use Rattle.model.specs.Numbers.{sum, largest, at, cell, transposed, oriented}
 use Rattle.model.specs.Rounds.{weighted, intermediate, rounds, Settles, shortfall, settling, settled, impliedDemand}
-use Rattle.model.specs.Checks.{Report, accepts, output, demandLimit, riseLimit, productionTotal, demandLeft}
+use Rattle.model.specs.Checks.{Report, accepts, roundsOf, output, demandLimit, riseLimit, productionLimit, productionTotal, demandLeft}
 use Rattle.model.specs.Calls.{matrixChecks, productionReport, priceReport, impliedReport}
 use Rattle.model.specs.Promises.{AcceptedMatrix, Distinguishes, Accurate, AccuratePrices, Returns, NotAbove}
+use Rattle.model.specs.Contracts.{Produced, Priced, Implied}
 use Rattle.theory.specs.Bounds.{sumLimit}
 use Rattle.theory.proofs.Sums.{sum-mono, sum-const, sum-part, sum-cell, largest-le, largest-cell}
 use Rattle.theory.proofs.Gauge.{total-gauge, largest-gauge}
 use Rattle.theory.proofs.Rounds.{equal-starts, settles-fixed, settles-length, lowest, implied-cell, forward-back}
 use Rattle.theory.proofs.Accuracy.{not-above, lacks-less, rounds-bounded, weighted-bounded}
 use Rattle.theory.proofs.Verdicts.{output-given, pass-on, matrix-accepted}
-use Rattle.theory.proofs.Answers.{Started, accepted-settled, accepted-implied}
+use Rattle.theory.proofs.Answers.{Started, accepted-settled, call-settles, accepted-implied}
 
 module _ {n : ℕ} {d : List ℕ} (A : AcceptedMatrix n d) where
   -- Demand 3, first half: equal productions exactly from equal demands, whatever the demands
@@ -67,40 +68,52 @@ module _ {n : ℕ} {d : List ℕ} (A : AcceptedMatrix n d) where
     rounds-fit false = production-fits
 
     -- and the total of a round is one that question 8 lets pass
-    total-fits : (k : ℕ) → sum n (cell (rounds n (at n d) s k)) ≤ 1600000000000
+    total-fits : (k : ℕ) → sum n (cell (rounds n (at n d) s k)) ≤ productionLimit
     total-fits k =
         let t = total-small in
         omega (arith, rounds-bounded n (at n d) (sum n) n (total-gauge n (at n d) (A .low)) s k)
 
-    pub settled-total : (budget : ℕ) → sum n (cell (settled n (at n d) s budget)) ≤ 1600000000000
+    pub settled-total : (budget : ℕ) → sum n (cell (settled n (at n d) s budget)) ≤ productionLimit
     unfolding settled
     settled-total budget = total-fits (settling n (at n d) s budget)
 
-  pub implied-fits : (y : List ℕ) → sum n (cell y) ≤ 1600000000000 → (i : ℕ) → i < n → weighted n (at n d) (cell y) i ≤ sumLimit
+  pub implied-fits : (y : List ℕ) → sum n (cell y) ≤ productionLimit → (i : ℕ) → i < n → weighted n (at n d) (cell y) i ≤ sumLimit
   implied-fits y h i l =
       omega (arith, sum-cell n (weighted n (at n d) (cell y)) i l, total-gauge n (at n d) (A .low) .shrinks (cell y))
 
--- ---- at the calls: the report r and the outputs y of a call keep the promises
-pub production-keeps : (n : ℕ) (d f : List ℕ) (budget len : ℕ) (lent : List ℕ) {r : Report} {y : List ℕ}
-    → r ≡ productionReport n d f budget lent → y ≡ output r len (settled n (at n d) f budget)
-    → (r .accepted ≡ true → Distinguishes n d f y) × (r .accepted ≡ true → Accurate n d f y)
+-- ---- at the calls: a call that answers and leaves what the definitions say keeps every promise
+pub produced : (n : ℕ) (d f : List ℕ) (budget : ℕ) (out₀ work₀ : List ℕ) {r : Report} {out work : List ℕ}
+    → r ≡ productionReport n d f budget (length out₀ ∷ length work₀ ∷ []) → out ≡ output r (length out₀) (settled n (at n d) f budget)
+    → work ≡ replicate (length work₀) 0 → Produced n d f budget out₀ work₀ r out work
 unfolding productionReport
-production-keeps n d f budget len lent {r} {y} e o =
-    (λ a. let p = kept a in rw (given a) (distinguishes (p .0 .matrix) (p .1)), λ a. let p = kept a in rw (given a) (accurate (p .0 .matrix) (p .1)))
+produced n d f budget out₀ work₀ {r} {out} e o z =
+    record {
+      answer = e;
+      outputs = o;
+      cleared = z;
+      settles = λ a. kept a .1;
+      distinct = λ a. distinguishes (kept a .0 .matrix) (kept a .1);
+      accurate = λ a. accurate (kept a .0 .matrix) (kept a .1);
+    }
   where
-    kept : r .accepted ≡ true → Started n d demandLimit f lent × Settles n (at n d) f (settling n (at n d) f budget) (settled n (at n d) f budget)
-    kept a = accepted-settled n d (at n d) demandLimit f budget lent (ap (λ (r : Report). r .accepted) (sym e) ∙ a)
+    lent : List ℕ
+    lent = length out₀ ∷ length work₀ ∷ []
 
-    given : r .accepted ≡ true → y ≡ settled n (at n d) f budget
-    given a = o ∙ output-given r len (settled n (at n d) f budget) a
+    kept : r .accepted ≡ true → Started n d demandLimit f lent × Settles n (at n d) f (roundsOf r) out
+    kept a = call-settles n d (at n d) demandLimit f budget lent (length out₀) e o a
 
-pub price-keeps : (n : ℕ) (d w : List ℕ) (budget len : ℕ) (lent : List ℕ) {r : Report} {y : List ℕ}
-    → r ≡ priceReport n d w budget lent → y ≡ output r len (settled n (transposed (at n d)) w budget)
-    → r .accepted ≡ true → AccuratePrices n d w y
+pub priced : (n : ℕ) (d w : List ℕ) (budget : ℕ) (out₀ work₀ : List ℕ) {r : Report} {out work : List ℕ}
+    → r ≡ priceReport n d w budget (length out₀ ∷ length work₀ ∷ []) → out ≡ output r (length out₀) (settled n (transposed (at n d)) w budget)
+    → work ≡ replicate (length work₀) 0 → Priced n d w budget out₀ work₀ r out work
 unfolding priceReport
-price-keeps n d w budget len lent {r} e o a =
-    let p = accepted-settled n d (transposed (at n d)) riseLimit w budget lent (ap (λ (r : Report). r .accepted) (sym e) ∙ a) in
-    rw (o ∙ output-given r len (settled n (transposed (at n d)) w budget) a) (accurate-prices (p .0 .matrix) (p .1))
+priced n d w budget out₀ work₀ {r} {out} e o z =
+    record { answer = e; outputs = o; cleared = z; settles = λ a. kept a .1; accurate = λ a. accurate-prices (kept a .0 .matrix) (kept a .1) }
+  where
+    lent : List ℕ
+    lent = length out₀ ∷ length work₀ ∷ []
+
+    kept : r .accepted ≡ true → Started n d riseLimit w lent × Settles n (transposed (at n d)) w (roundsOf r) out
+    kept a = call-settles n d (transposed (at n d)) riseLimit w budget lent (length out₀) e o a
 
 -- Demand 2: a demand behind a production is that of every start that settles there
 pub returns : (n : ℕ) (d y : List ℕ) → Returns n d y (impliedDemand n (at n d) y)
@@ -114,12 +127,12 @@ not-above-given n d y p z k σ =
 
 -- Demand 2: where production is accepted, going back from what it gives is accepted too, and returns the demand
 pub forward-then-back : (n : ℕ) (d f : List ℕ) (budget : ℕ) (lent : List ℕ) → productionReport n d f budget lent .accepted ≡ true
-    → (impliedReport n d (settled n (at n d) f budget) (n ∷ []) ≡ accepts 0) × (impliedDemand n (at n d) (settled n (at n d) f budget) ≡ f)
+    → (impliedReport n d (settled n (at n d) f budget) (n ∷ []) ≡ accepts []) × (impliedDemand n (at n d) (settled n (at n d) f budget) ≡ f)
 unfolding productionReport impliedReport
 forward-then-back n d f budget lent a = (
-  pass-on (matrixChecks n d [] (length y ∷ n ∷ [])) (productionTotal n y ∷ demandLeft n (at n d) y ∷ []) 0
+  pass-on (matrixChecks n d [] (length y ∷ n ∷ [])) (productionTotal n y ∷ demandLeft n (at n d) y ∷ []) []
       (matrix-accepted n d [] (length y ∷ n ∷ []) (s .matrix) refl (rw (eq-eqb n (length y) (sym (settles-length n (at n d) (s .start) σ)), eq-eqb n n refl)))
-      ∙ pass-on (productionTotal n y ∷ demandLeft n (at n d) y ∷ []) [] 0
+      ∙ pass-on (productionTotal n y ∷ demandLeft n (at n d) y ∷ []) [] []
       (λ i h. le-leb _ _ (le-trans (sum-part (suc i) n (cell y) h) total), (λ i h. le-leb _ _ (left i h), tt)),
   returns n d y f (settling n (at n d) f budget) (s .start) σ,
 )
@@ -133,29 +146,33 @@ forward-then-back n d f budget lent a = (
     σ : Settles n (at n d) f (settling n (at n d) f budget) y
     σ = accepted-settled n d (at n d) demandLimit f budget lent a .1
 
-    total : sum n (cell y) ≤ 1600000000000
+    total : sum n (cell y) ≤ productionLimit
     total = settled-total (s .matrix) f (s .small) budget
 
     left : (i : ℕ) → i < n → intermediate n (at n d) (cell y) i ≤ cell y i
     left i h = omega (arith, settles-fixed n (at n d) σ i h)
 
--- the report r and the outputs g of a call of implied demand keep these promises
-pub implied-keeps : (n : ℕ) (d y : List ℕ) (len : ℕ) {r : Report} {g : List ℕ}
-    → r ≡ impliedReport n d y (len ∷ []) → g ≡ output r len (impliedDemand n (at n d) y)
-    → (r .accepted ≡ true → Returns n d y g) × ((r .accepted ≡ true → NotAbove n d y g)
-    × ((f : List ℕ) (budget : ℕ) (lent : List ℕ) → productionReport n d f budget lent .accepted ≡ true → y ≡ settled n (at n d) f budget → len ≡ n
-    → (r ≡ accepts 0) × (g ≡ f)))
-implied-keeps n d y len {r} {g} e o = (λ a. rw (result a) (returns n d y), (λ a. rw (result a) (not-above-given n d y (left a)), again))
+-- a call of implied demand that answers and leaves what the definitions say keeps these promises
+pub implied : (n : ℕ) (d y out₀ : List ℕ) {r : Report} {out : List ℕ}
+    → r ≡ impliedReport n d y (length out₀ ∷ []) → out ≡ output r (length out₀) (impliedDemand n (at n d) y) → Implied n d y out₀ r out
+implied n d y out₀ {r} {out} e o =
+    record {
+      answer = e;
+      outputs = o;
+      returns = λ a. rw (result a) (returns n d y);
+      back = λ a. rw (result a) (not-above-given n d y (left a));
+      inverse = λ f budget lent a h l. again f budget lent a h l;
+    }
   where
-    result : r .accepted ≡ true → g ≡ impliedDemand n (at n d) y
-    result a = o ∙ output-given r len (impliedDemand n (at n d) y) a
+    result : r .accepted ≡ true → out ≡ impliedDemand n (at n d) y
+    result a = o ∙ output-given r (length out₀) (impliedDemand n (at n d) y) a
 
     left : r .accepted ≡ true → (i : ℕ) → i < n → intermediate n (at n d) (cell y) i ≤ cell y i
-    left a = accepted-implied n d y (len ∷ []) (ap (λ (r : Report). r .accepted) (sym e) ∙ a) .1
+    left a = accepted-implied n d y (length out₀ ∷ []) (ap (λ (r : Report). r .accepted) (sym e) ∙ a) .1
 
-    again : (f : List ℕ) (budget : ℕ) (lent : List ℕ) → productionReport n d f budget lent .accepted ≡ true → y ≡ settled n (at n d) f budget → len ≡ n
-        → (r ≡ accepts 0) × (g ≡ f)
+    again : (f : List ℕ) (budget : ℕ) (lent : List ℕ) → productionReport n d f budget lent .accepted ≡ true → y ≡ settled n (at n d) f budget → length out₀ ≡ n
+        → (r ≡ accepts []) × (out ≡ f)
     again f budget lent a h l =
         let p = forward-then-back n d f budget lent a in
-        let t : r ≡ accepts 0 = e ∙ rw (h, l) (p .0) in
+        let t : r ≡ accepts [] = e ∙ rw (h, l) (p .0) in
         (t, result (ap (λ (r : Report). r .accepted) t) ∙ rw h (p .1))

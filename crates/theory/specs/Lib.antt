@@ -2,5 +2,6 @@
 pub mod Bounds
 pub mod Rises
 pub mod Search
+pub mod Slices
 pub mod Tables
 pub mod Files

@@ -7,12 +7,12 @@ use native.Mathlib.Numerals.{add-one}
 use native.Mathlib.Omega.{arith}
 use lib.Dec.{eqb, lit≤}
 use lib.ListN.{length, replicate, length-replicate}
-use Rattle.model.specs.File.{Entry, entryAt, Reading, walk, answerOf}
+use Rattle.model.specs.File.{Entry, Reading, walk, answerOf}
 use Rattle.model.specs.declared.TableRead.the-variants.{Read, Refused}
 use Rattle.records.specs.Marks.{marked}
 use Rattle.records.proofs.MarkLaws.{marked-none}
 use Rattle.walk.specs.declared.Step.the-variants.{Stop, End, Cell}
-use Rattle.walk.specs.Steps.{Held, Kept, Asked, Accepts}
+use Rattle.walk.specs.Steps.{Held, Agrees, Kept, Names, Asked, Accepts}
 use Rattle.walk.proofs.WalkLaws.{one-more}
 use Rattle.walk.proofs.CellLaws.{held-none, held-refused}
 
@@ -35,6 +35,14 @@ keeps n es cells marks cells' marks' e m h w k = record {
     words = w;
   };
 }
+
+-- the step at a record whose cell is e, by the cell's three numbers
+pub takes : (s : List ℕ) (n at : ℕ) (marks : List ℕ) (e : Entry) (l p a next : ℕ) → l ≡ e .line → p ≡ e .position → a ≡ e .amount
+    → ((fuel : ℕ) (es : List Entry) → Agrees es marks → walk (suc fuel) s n es at ≡ walk fuel s n (e ∷ es) next) → Names s n at e next
+    → Asked s n at marks (Cell l p a next)
+takes s n at marks e l p a next x y z w m =
+    let same = as-entry e l p a x y z in
+    (λ fuel es g. w fuel es g ∙ ap (λ (d : Entry). walk fuel s n (d ∷ es) next) (sym same), subst (λ (d : Entry). Names s n at d next) (sym same) m)
 
 pub keeps-none : (n : ℕ) (cells marks : List ℕ) → cells ≡ replicate 1840 0 → marks ≡ replicate 46 0 → Kept n [] cells marks
 keeps-none n cells marks x y = record {
@@ -87,14 +95,14 @@ module _ (s : List ℕ) (n : ℕ) (cells marks : List ℕ) (at count : ℕ) (w :
   }
 
   pub goes-on :
-      (next : ℕ) (cells' marks' : List ℕ) → Asked s n at marks (Cell next)
-      → ((es : List Entry) → Kept n es cells marks → Kept n (entryAt s at ∷ es) cells' marks') → Walking s n cells' marks' next (count + 1)
-  goes-on next cells' marks' t k =
+      (e : Entry) (next : ℕ) (cells' marks' : List ℕ) → Asked s n at marks (Cell (e .line) (e .position) (e .amount) next)
+      → ((es : List Entry) → Kept n es cells marks → Kept n (e ∷ es) cells' marks') → Walking s n cells' marks' next (count + 1)
+  goes-on e next cells' marks' t k =
       let o = t .1 .onward in
       let z = w .enough in
       let f = w .few in
       record {
-        es = entryAt s at ∷ w .es;
+        es = e ∷ w .es;
         fuel = next-fuel;
         same = before ∙ t .0 next-fuel (w .es) (w .kept .agrees);
         enough = (let d : length s ≤ next + pred (w .fuel) = omega arith in d);

@@ -105,7 +105,7 @@ module _ (s : List ℕ) (at : ℕ) (b : Begun s at) where
               let h = c .high in
               subst (Within n) (entry-column s at k) (record { known = h; row = λ q. omega arith; place = omega arith })
 
-      pub names-of : (size' : ℕ) → size' ≡ size → Names s n at (at + size')
+      pub names-of : (size' : ℕ) → size' ≡ size → Names s n at (entryAt s at) (at + size')
       names-of size' e =
           let p = parts in
-          record { body = bodied; sectors = sectors-of; within = within-of; onward = omega (arith, p .0); inside = omega (arith, p .1) }
+          record { within = within-of; onward = omega (arith, p .0); inside = omega (arith, p .1) }

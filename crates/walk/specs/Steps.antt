@@ -5,11 +5,10 @@ use mathlib.Core.List.{List, [], _∷_}
 use mathlib.Core.Path.{_≡_}
 use Prim.Native.Nat.{ℕ, suc, _*_, _≤_, _<_}
 use lib.ListN.{length, take, drop}
-use Rattle.model.specs.File.{Entry, kindAt, wholeAt, entryAt, named, Reading, walk, reading, flowsRead, columnRead}
+use Rattle.model.specs.File.{Entry, kindAt, wholeAt, named, Reading, walk, reading, flowsRead, columnRead}
 use Rattle.model.specs.declared.TableRead.{TableRead}
 use Rattle.model.specs.declared.TableRead.the-variants.{Read, Refused}
 use Rattle.theory.specs.Files.{Within}
-use Rattle.records.specs.Bodies.{Body, Sectors}
 use Rattle.records.specs.Marks.{marked}
 use Rattle.walk.specs.declared.Step.{Step}
 use Rattle.walk.specs.declared.Step.the-variants.{Stop, End, Cell}
@@ -40,11 +39,9 @@ pub record Naming (s : List ℕ) (at : ℕ) : Type 0 where
   pub not-first : kindAt s at ≡ 1 → ⊥
   pub not-end : kindAt s at ≡ 8 → ⊥
 
--- a record that names a cell, and the offset after it
-pub record Names (s : List ℕ) (n at next : ℕ) : Type 0 where
-  pub body : Body s at
-  pub sectors : Sectors s at
-  pub within : Within n (entryAt s at)
+-- a record that names a cell, the cell, and the offset after it
+pub record Names (s : List ℕ) (n at : ℕ) (e : Entry) (next : ℕ) : Type 0 where
+  pub within : Within n e
   pub onward : at < next
   pub inside : next ≤ length s
 
@@ -52,8 +49,9 @@ pub record Names (s : List ℕ) (n at next : ℕ) : Type 0 where
 abbrev pub Asked : List ℕ → ℕ → ℕ → List ℕ → Step → Type 0
 Asked s n at marks (Stop q p) = (fuel : ℕ) (es : List Entry) → Agrees es marks → walk (suc fuel) s n es at ≡ Reading.refused q p
 Asked s n at marks End = (fuel : ℕ) (es : List Entry) → Agrees es marks → walk (suc fuel) s n es at ≡ Reading.table n es
-Asked s n at marks (Cell next) =
-    ((fuel : ℕ) (es : List Entry) → Agrees es marks → walk (suc fuel) s n es at ≡ walk fuel s n (entryAt s at ∷ es) next) × Names s n at next
+Asked s n at marks (Cell line position amount next) =
+    let e : Entry = record { line = line; position = position; amount = amount } in
+    ((fuel : ℕ) (es : List Entry) → Agrees es marks → walk (suc fuel) s n es at ≡ walk fuel s n (e ∷ es) next) × Names s n at e next
 
 -- the reading is a table of n sectors with k named cells, and the list holds them
 pub record Accepts (o : Reading) (n k : ℕ) (cells : List ℕ) : Type 0 where

@@ -14,16 +14,23 @@ ghost use mathlib.Core.List.{List, [], _∷_};
 ghost use mathlib.Core.Path.{_≡_};
 ghost use Prim.Native.Nat.{ℕ, _≤_};
 ghost use lib.ListN.{length, replicate};
-ghost use Rattle.model.specs.File.{Entry, kindAt, entryAt, Reading, walk as walkFrom, reading, answerOf};
+ghost use Rattle.model.specs.File.{Entry, kindAt, Reading, walk as walkFrom, reading, answerOf};
 ghost use Rattle.theory.specs.Files.{Within};
-ghost use Rattle.records.specs.Bodies.{Body, Sectors};
 ghost use Rattle.walk.specs.Steps.{Held, Kept, Begun, Naming, Asked, Ends, Opened};
 
 // What the walk does at a record: it stops with a refusal, it ends, or it takes a named cell and goes on.
 pub enum Step {
-    Stop { number: u8, place: usize },
+    Stop {
+        number: u8,
+        place: usize,
+    },
     End,
-    Cell { next: usize },
+    Cell {
+        line: usize,
+        position: usize,
+        amount: u64,
+        next: usize,
+    },
 }
 
 // Question 15 of a record of kind 8: is it the file's last byte?
@@ -51,13 +58,18 @@ fn cell_at(file: &[u8], at: usize, n: usize, marks: &[u64]) -> Step
             place: at,
         };
     }
-    if is_marked(marks, line_at(file, at), position_at(file, at)) {
+    let line = line_at(file, at);
+    let position = position_at(file, at);
+    if is_marked(marks, line, position) {
         return Step::Stop {
             number: 14,
             place: at,
         };
     }
     Step::Cell {
+        line,
+        position,
+        amount: amount_at(file, at),
         next: at + record_length(file[at]),
     }
 }
@@ -103,14 +115,11 @@ fn store(cells: &mut [u64], n: usize, line: usize, position: usize, amount: u64)
     cells[line * 40 + position] = amount;
 }
 
-// Marks and stores the cell that a record names.
-fn keep(file: &[u8], at: usize, n: usize, cells: &mut [u64], marks: &mut [u64])
-    requires { ⌜ (n ≤ 40) × (length (now cells) ≡ 1840) × (length (now marks) ≡ 46) × Body (now file) at × Sectors (now file) at × Within n (entryAt (now file) at) ⌝ }
-    ensures { λ _. ⌜ ((es : List Entry) → Kept n es (now (cells .entry)) (now (marks .entry)) → Kept n (entryAt (now (file .entry)) at ∷ es) (now (cells .exit)) (now (marks .exit))) ⌝ }
+// Marks and stores a named cell.
+fn keep(n: usize, line: usize, position: usize, amount: u64, cells: &mut [u64], marks: &mut [u64])
+    requires { ⌜ (n ≤ 40) × (length (now cells) ≡ 1840) × (length (now marks) ≡ 46) × Within n (record { line = line; position = position; amount = amount }) ⌝ }
+    ensures { λ _. ⌜ ((es : List Entry) → Kept n es (now (cells .entry)) (now (marks .entry)) → Kept n (record { line = line; position = position; amount = amount } ∷ es) (now (cells .exit)) (now (marks .exit))) ⌝ }
 {
-    let line = line_at(file, at);
-    let position = position_at(file, at);
-    let amount = amount_at(file, at);
     mark(marks, line, position);
     store(cells, n, line, position, amount);
 }
@@ -127,8 +136,13 @@ fn walk(file: &[u8], n: usize, cells: &mut [u64], marks: &mut [u64]) -> TableRea
         match step {
             Step::Stop { number, place } => return TableRead::Refused { number, place },
             Step::End => return TableRead::Read { sectors: n, named },
-            Step::Cell { next } => {
-                keep(file, at, n, cells, marks);
+            Step::Cell {
+                line,
+                position,
+                amount,
+                next,
+            } => {
+                keep(n, line, position, amount, cells, marks);
                 named += 1;
                 at = next;
             }

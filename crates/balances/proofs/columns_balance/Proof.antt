@@ -1,6 +1,6 @@
 -- `balances::columns_balance` meets its contract. Within a column sum is the sum of the cells above i; every column before j balances. Assumes
 -- nothing.
-use mathlib.Core.List.{[]}
+use mathlib.Core.List.{[], _∷_}
 use mathlib.Core.Path.{_≡_, refl, sym, ap, _∙_}
 use Prim.Native.Nat.{ℕ, _+_, _*_, _≤_, _-_, _<_}
 use native.Mathlib.Nat.{le-trans}
@@ -22,14 +22,14 @@ abbrev μ-loop : tie.MeasureT-loop
 μ-loop n x value production j sum₀ i₀ s i = n - i
 
 abbrev Inv-scan : tie.InvT-scan
-Inv-scan n x value production j₀ j = (j ≤ n) × All (columnBalances (tableOf n x [] [] [] value production) .passes) j
+Inv-scan n x value production j₀ j = (j ≤ n) × All (columnBalances (tableOf n x ([] ∷ [] ∷ [] ∷ value ∷ production ∷ [])) .passes) j
 
 abbrev μ-scan : tie.MeasureT-scan
 μ-scan n x value production j₀ j = n - j
 
 -- the table as far as it is looked at, and the cells of column j
 abbrev table : tie.Start Inv-loop μ-loop Inv-scan μ-scan → Table
-table s = let a = s .args in tableOf (a .n) (a .x .now) [] [] [] (a .value-added .now) (a .production .now)
+table s = let a = s .args in tableOf (a .n) (a .x .now) ([] ∷ [] ∷ [] ∷ a .value-added .now ∷ a .production .now ∷ [])
 
 abbrev column : tie.At-scan Inv-loop μ-loop Inv-scan μ-scan → ℕ → ℕ
 column p = transposed (at (p .before .args .n) (p .before .args .x .now)) (p .scan .j)
@@ -45,7 +45,7 @@ term c =
     let p = c .before .before .before in
     let s = p .before in
     let h = cell-in (s .args .n) (c .before .loop .i) (p .scan .j) (c .loop-test .taken) (c .before .before .if1 .left) in
-    (h, s .pre .1 .0 (c .before .loop .i * s .args .n + p .scan .j) h)
+    (h, s .pre .1 .0 (c .before .loop .i * s .args .n + p .scan .j))
 
 fits : (c : tie.In-loop Inv-loop μ-loop Inv-scan μ-scan) → c .before .loop .i ≤ 40
 fits c = le-trans (c .before .loop .inv .0) (c .before .before .before .before .pre .0 .0)
@@ -70,7 +70,7 @@ add-if2 c =
     let l = c .before .before .loop in
     let p = c .before .before .before .before in
     let s = p .before in
-    omega (arith, s .pre .1 .1 (p .scan .j) (c .before .before .before .if1 .left), le-trans (l .inv .0) (s .pre .0 .0))
+    omega (arith, s .pre .1 .1 (p .scan .j), le-trans (l .inv .0) (s .pre .0 .0))
 
 scan-again : tie.Need-scan-again Inv-loop μ-loop Inv-scan μ-scan
 scan-again c =
@@ -83,7 +83,7 @@ scan-again c =
 returns : tie.Need-returns Inv-loop μ-loop Inv-scan μ-scan
 returns c =
     let p = c .before in
-    sym (passed (columnBalances (table (p .before))) [] 0 (p .scan .j) (c .if1 .taken) (p .scan .inv .1))
+    sym (passed (columnBalances (table (p .before))) [] [] (p .scan .j) (c .if1 .taken) (p .scan .inv .1))
 
 returns-2 : tie.Need-returns-2 Inv-loop μ-loop Inv-scan μ-scan
 returns-2 c =
@@ -91,7 +91,7 @@ returns-2 c =
     let p = q .before .before .before in
     let v = cell (p .before .args .value-added .now) (p .scan .j) in
     let h = q .before .before .if1 .left in
-    sym (failed-each 4 (p .before .args .n) (columnBalances (table (p .before)) .passes) [] 0 (p .scan .j) h (p .scan .inv .1)
+    sym (failed-each 4 (p .before .args .n) (columnBalances (table (p .before)) .passes) [] [] (p .scan .j) h (p .scan .inv .1)
     (ne-eqb _ _ (λ e. c .if2 .taken (ap (λ (t : ℕ). t + v) (done q) ∙ e))))
 
 pub columns-balance-spec : {M : Type 1} → statement M

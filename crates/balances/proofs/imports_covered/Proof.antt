@@ -1,5 +1,5 @@
 -- `balances::imports_covered` meets its contract: no sector before i imports more than it needs. Assumes nothing.
-use mathlib.Core.List.{[]}
+use mathlib.Core.List.{[], _∷_}
 use mathlib.Core.Path.{sym}
 use Prim.Native.Nat.{_≤_, _-_}
 use native.Mathlib.Omega.{arith}
@@ -12,7 +12,7 @@ use Rattle.balances.proofs.imports_covered.Statement.{statement}
 use Rattle.balances.proofs.imports_covered.Tie as tie
 
 abbrev Inv-loop : tie.InvT-loop
-Inv-loop n x demand imports i₀ i = (i ≤ n) × All (importsCovered (tableOf n x demand [] imports [] []) .passes) i
+Inv-loop n x demand imports i₀ i = (i ≤ n) × All (importsCovered (tableOf n x (demand ∷ [] ∷ imports ∷ [])) .passes) i
 
 abbrev μ-loop : tie.MeasureT-loop
 μ-loop n x demand imports i₀ i = n - i
@@ -21,7 +21,7 @@ abbrev entry : tie.At-loop Inv-loop μ-loop → tie.Start Inv-loop μ-loop
 entry p = p .before .before .before .before
 
 abbrev table : tie.Start Inv-loop μ-loop → Table
-table s = let a = s .args in tableOf (a .n) (a .x .now) (a .final-demand .now) [] (a .imports .now) [] []
+table s = let a = s .args in tableOf (a .n) (a .x .now) (a .final-demand .now ∷ [] ∷ a .imports .now ∷ [])
 
 need-of-requires : tie.Need-need-of-requires Inv-loop μ-loop
 need-of-requires c κs =
@@ -32,7 +32,7 @@ returns : tie.Need-returns Inv-loop μ-loop
 returns c =
     let q = c .before .before in
     let p = q .before .before in
-    sym (failed-each 6 (entry p .args .n) (importsCovered (table (entry p)) .passes) [] 0 (p .loop .i) (q .before .loop-test .taken) (p .loop .inv .1)
+    sym (failed-each 6 (entry p .args .n) (importsCovered (table (entry p)) .passes) [] [] (p .loop .i) (q .before .loop-test .taken) (p .loop .inv .1)
     (lt-leb _ _ (rw (q .need-of .ensures .0) at (c .if1 .taken))))
 
 loop-again : tie.Need-loop-again Inv-loop μ-loop
@@ -44,7 +44,7 @@ loop-again c =
 returns-2 : tie.Need-returns-2 Inv-loop μ-loop
 returns-2 c =
     let p = c .before in
-    sym (passed (importsCovered (table (entry p))) [] 0 (p .loop .i) (c .loop-test .left) (p .loop .inv .1))
+    sym (passed (importsCovered (table (entry p))) [] [] (p .loop .i) (c .loop-test .left) (p .loop .inv .1))
 
 pub imports-covered-spec : {M : Type 1} → statement M
 imports-covered-spec =

@@ -25,7 +25,7 @@ term :
 term c =
     let s = c .before .before in
     let h = cell-in (s .args .n) (s .args .i) (c .before .loop .j) (s .pre .0 .1) (c .loop-test .taken) in
-    (h, s .pre .1 .0 (s .args .i * s .args .n + c .before .loop .j) h)
+    (h, s .pre .1 .0 (s .args .i * s .args .n + c .before .loop .j))
 
 -- the sector's final demand is within the limit, and there are at most 40 cells before it
 last :
@@ -34,7 +34,7 @@ last :
     (cell (a .final-demand .now) (a .i) ≤ amountLimit) × (c .before .before .loop .j ≤ 40)
 last c =
     let s = c .before .before .before in
-    (s .pre .1 .1 (s .args .i) (s .pre .0 .1), le-trans (c .before .before .loop .inv .0) (s .pre .0 .0))
+    (s .pre .1 .1 (s .args .i), le-trans (c .before .before .loop .inv .0) (s .pre .0 .0))
 
 loop-again : tie.Need-loop-again Inv-loop μ-loop
 loop-again c =

@@ -1,11 +1,11 @@
 -- `balances::rows_balance` meets its contract: every row before i balances. Assumes nothing.
-use mathlib.Core.List.{[]}
+use mathlib.Core.List.{[], _∷_}
 use mathlib.Core.Path.{_≡_, sym, ap, _∙_}
 use Prim.Native.Nat.{ℕ, _+_, _≤_, _-_}
 use native.Mathlib.Omega.{arith}
 use borrow.Author.Tests.{eq-eqb, ne-eqb}
 use Rattle.model.specs.Numbers.{cell}
-use Rattle.model.specs.Table.{Table, tableOf, need}
+use Rattle.model.specs.Table.{Table, tableOf, exports, need}
 use Rattle.model.specs.Checks.{amountLimit, rowBalances}
 use Rattle.theory.proofs.Lists.{All, all-none, all-more}
 use Rattle.theory.proofs.Verdicts.{passed, failed-each}
@@ -13,8 +13,8 @@ use Rattle.balances.proofs.rows_balance.Statement.{statement}
 use Rattle.balances.proofs.rows_balance.Tie as tie
 
 abbrev Inv-loop : tie.InvT-loop
-Inv-loop n x demand exports imports production i₀ i =
-    (i ≤ n) × All (rowBalances (tableOf n x demand exports imports [] production) .passes) i
+Inv-loop n x demand abroad imports production i₀ i =
+    (i ≤ n) × All (rowBalances (tableOf n x (demand ∷ abroad ∷ imports ∷ [] ∷ production ∷ [])) .passes) i
 
 abbrev μ-loop : tie.MeasureT-loop
 μ-loop n x demand exports imports production i₀ i = n - i
@@ -23,7 +23,7 @@ abbrev entry : tie.At-loop Inv-loop μ-loop → tie.Start Inv-loop μ-loop
 entry p = p .before .before .before .before .before .before
 
 abbrev table : tie.Start Inv-loop μ-loop → Table
-table s = let a = s .args in tableOf (a .n) (a .x .now) (a .final-demand .now) (a .exports .now) (a .imports .now) [] (a .production .now)
+table s = let a = s .args in tableOf (a .n) (a .x .now) (a .final-demand .now ∷ a .exports .now ∷ a .imports .now ∷ [] ∷ a .production .now ∷ [])
 
 -- the amounts of the sector are within their limit
 small :
@@ -31,14 +31,14 @@ small :
     let i = q .before .before .loop .i in
     let a = entry (q .before .before) .args in
     (cell (a .exports .now) i ≤ amountLimit) × (cell (a .imports .now) i ≤ amountLimit) × (cell (a .production .now) i ≤ amountLimit)
-small q = entry (q .before .before) .pre .1 .1 .1 (q .before .before .loop .i) (q .before .loop-test .taken)
+small q = entry (q .before .before) .pre .1 .1 .1 (q .before .before .loop .i)
 
 -- the code's need of the sector with its exports is the check's
 needed :
     (q : tie.After-need-of Inv-loop μ-loop) →
     let i = q .before .before .loop .i in
     let t = table (entry (q .before .before)) in
-    q .need-of .result + cell (t .exports) i ≡ need t i + cell (t .exports) i
+    q .need-of .result + cell (exports t) i ≡ need t i + cell (exports t) i
 needed q = ap (λ (k : ℕ). k + cell (entry (q .before .before) .args .exports .now) (q .before .before .loop .i)) (q .need-of .ensures .0)
 
 need-of-requires : tie.Need-need-of-requires Inv-loop μ-loop
@@ -50,7 +50,7 @@ returns : tie.Need-returns Inv-loop μ-loop
 returns c =
     let q = c .before .before .before .before in
     let p = q .before .before in
-    sym (failed-each 5 (entry p .args .n) (rowBalances (table (entry p)) .passes) [] 0 (p .loop .i) (q .before .loop-test .taken) (p .loop .inv .1)
+    sym (failed-each 5 (entry p .args .n) (rowBalances (table (entry p)) .passes) [] [] (p .loop .i) (q .before .loop-test .taken) (p .loop .inv .1)
     (ne-eqb _ _ (λ e. c .if1 .taken (needed q ∙ e))))
 
 loop-again : tie.Need-loop-again Inv-loop μ-loop
@@ -62,7 +62,7 @@ loop-again c =
 returns-2 : tie.Need-returns-2 Inv-loop μ-loop
 returns-2 c =
     let p = c .before in
-    sym (passed (rowBalances (table (entry p))) [] 0 (p .loop .i) (c .loop-test .left) (p .loop .inv .1))
+    sym (passed (rowBalances (table (entry p))) [] [] (p .loop .i) (c .loop-test .left) (p .loop .inv .1))
 
 pub rows-balance-spec : {M : Type 1} → statement M
 rows-balance-spec =

@@ -1,13 +1,11 @@
 -- `capi::tawqeshim_induced` meets its contract. Assumes nothing.
-use mathlib.Core.Path.{sym}
 use borrow.Author.Needs.{needs}
+use Rattle.tell.proofs.Numbers.{induced-told}
 use Rattle.capi.proofs.tawqeshim_induced.Statement.{statement}
 use Rattle.capi.proofs.tawqeshim_induced.Tie as tie
 
 returns : tie.Need-returns
-returns c =
-    let e = c .before .before .before .before .before .before .before .induced .ensures in
-    rw (sym (e .0)) (c .tell-answer .ensures, e .1 .0, e .1 .1)
+returns c = induced-told (c .tell-answer .ensures) (c .before .before .before .before .before .before .before .induced .ensures)
 
 pub tawqeshim-induced-spec : {M : Type 1} → statement M
 tawqeshim-induced-spec =

@@ -1,13 +1,11 @@
 -- `capi::tawqeshim_inverse` meets its contract. Assumes nothing.
-use mathlib.Core.Path.{sym}
 use borrow.Author.Needs.{needs}
+use Rattle.tell.proofs.Numbers.{inverted-told}
 use Rattle.capi.proofs.tawqeshim_inverse.Statement.{statement}
 use Rattle.capi.proofs.tawqeshim_inverse.Tie as tie
 
 returns : tie.Need-returns
-returns c =
-    let e = c .before .before .before .before .before .before .before .before .before .before .inverse .ensures in
-    rw (sym (e .0)) (c .tell-outcome .ensures, e .1 .0, e .1 .1 .0, e .1 .1 .1)
+returns c = inverted-told (c .tell-outcome .ensures) (c .before .before .before .before .before .before .before .before .before .before .inverse .ensures)
 
 pub tawqeshim-inverse-spec : {M : Type 1} → statement M
 tawqeshim-inverse-spec =

@@ -1,13 +1,11 @@
 -- `capi::tawqeshim_price` meets its contract. Assumes nothing.
-use mathlib.Core.Path.{sym}
 use borrow.Author.Needs.{needs}
+use Rattle.tell.proofs.Numbers.{priced-told}
 use Rattle.capi.proofs.tawqeshim_price.Statement.{statement}
 use Rattle.capi.proofs.tawqeshim_price.Tie as tie
 
 returns : tie.Need-returns
-returns c =
-    let e = c .before .before .before .before .before .before .before .before .price .ensures in
-    rw (sym (e .0)) (c .tell-outcome .ensures, e .1 .0, e .1 .1 .0, e .1 .1 .1)
+returns c = priced-told (c .tell-outcome .ensures) (c .before .before .before .before .before .before .before .before .price .ensures)
 
 pub tawqeshim-price-spec : {M : Type 1} → statement M
 tawqeshim-price-spec =

@@ -1,13 +1,11 @@
 -- `capi::tawqeshim_production` meets its contract. Assumes nothing.
-use mathlib.Core.Path.{sym}
 use borrow.Author.Needs.{needs}
+use Rattle.tell.proofs.Numbers.{produced-told}
 use Rattle.capi.proofs.tawqeshim_production.Statement.{statement}
 use Rattle.capi.proofs.tawqeshim_production.Tie as tie
 
 returns : tie.Need-returns
-returns c =
-    let e = c .before .before .before .before .before .before .before .before .production .ensures in
-    rw (sym (e .0)) (c .tell-outcome .ensures, e .1 .0, e .1 .1 .0, e .1 .1 .1 .0, e .1 .1 .1 .1)
+returns c = produced-told (c .tell-outcome .ensures) (c .before .before .before .before .before .before .before .before .production .ensures)
 
 pub tawqeshim-production-spec : {M : Type 1} → statement M
 tawqeshim-production-spec =

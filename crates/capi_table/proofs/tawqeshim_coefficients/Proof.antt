@@ -1,13 +1,11 @@
 -- `capi_table::tawqeshim_coefficients` meets its contract. Assumes nothing.
-use mathlib.Core.Path.{sym}
 use borrow.Author.Needs.{needs}
+use Rattle.tell.proofs.Numbers.{derived-told}
 use Rattle.capi_table.proofs.tawqeshim_coefficients.Statement.{statement}
 use Rattle.capi_table.proofs.tawqeshim_coefficients.Tie as tie
 
 returns : tie.Need-returns
-returns c =
-    let e = c .before .before .before .before .before .before .before .before .before .before .before .before .before .coefficients .ensures in
-    rw (sym (e .0)) (c .tell-answer .ensures, e .1, e .2, e .3, e .4, e .5)
+returns c = derived-told (c .tell-answer .ensures) (c .before .before .before .before .before .before .before .before .before .before .before .before .before .coefficients .ensures)
 
 pub tawqeshim-coefficients-spec : {M : Type 1} → statement M
 tawqeshim-coefficients-spec =

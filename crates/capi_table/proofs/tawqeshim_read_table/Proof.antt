@@ -1,13 +1,11 @@
 -- `capi_table::tawqeshim_read_table` meets its contract. Assumes nothing.
-use mathlib.Core.Path.{sym}
 use borrow.Author.Needs.{needs}
+use Rattle.tell.proofs.Numbers.{read-told}
 use Rattle.capi_table.proofs.tawqeshim_read_table.Statement.{statement}
 use Rattle.capi_table.proofs.tawqeshim_read_table.Tie as tie
 
 returns : tie.Need-returns
-returns c =
-    let e = c .before .before .before .before .before .before .before .before .before .before .before .before .before .before .before .before .before .before .before .before .before .read-table .ensures in
-    rw (sym (e .0)) (c .tell-read .ensures, e .1 .0, e .1 .1)
+returns c = read-told (c .tell-read .ensures) (c .before .before .before .before .before .before .before .before .before .before .before .before .before .before .before .before .before .before .before .before .before .read-table .ensures)
 
 pub tawqeshim-read-table-spec : {M : Type 1} → statement M
 tawqeshim-read-table-spec =

@@ -21,7 +21,7 @@ returns : tie.Need-returns Inv-loop μ-loop
 returns c =
     let l = c .before .before .before .loop in
     let a = c .before .before .before .before .args in
-    sym (failed (bounded (a .number) (a .offset) (a .limit) (a .s .now)) [] 0 (l .i) (omega arith) (l .inv .2) (lt-leb _ _ (c .if1 .taken)))
+    sym (failed (bounded (a .number) (a .offset) (a .limit) (a .s .now)) [] [] (l .i) (omega arith) (l .inv .2) (lt-leb _ _ (c .if1 .taken)))
 
 loop-again : tie.Need-loop-again Inv-loop μ-loop
 loop-again c =
@@ -32,7 +32,7 @@ returns-2 : tie.Need-returns-2 Inv-loop μ-loop
 returns-2 c =
     let l = c .before .loop in
     let a = c .before .before .args in
-    sym (passed (bounded (a .number) (a .offset) (a .limit) (a .s .now)) [] 0 (l .i) (omega arith) (l .inv .2))
+    sym (passed (bounded (a .number) (a .offset) (a .limit) (a .s .now)) [] [] (l .i) (omega arith) (l .inv .2))
 
 pub cells-within-spec : {M : Type 1} → statement M
 cells-within-spec =

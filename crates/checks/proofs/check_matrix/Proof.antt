@@ -21,7 +21,7 @@ last q = let a = entry q .args in columnSums (a .n) (at (a .n) (a .d .now)) ∷ 
 returns : tie.Need-returns
 returns c =
     let q = c .before .before .before in
-    answered-stop (asked q) (q .check-sizes .ensures) (last q) 0 (c .before .sizes .given .1)
+    answered-stop (asked q) (q .check-sizes .ensures) (last q) [] (c .before .sizes .given .1)
 
 columns-within-requires : tie.Need-columns-within-requires
 columns-within-requires c κs =
@@ -33,7 +33,7 @@ columns-within-requires c κs =
 returns-2 : tie.Need-returns-2
 returns-2 c =
     let q = c .before .before .before in
-    c .columns-within .ensures ∙ answered-on (asked q) (q .check-sizes .ensures) (last q) 0 (c .before .enum-told .given .1)
+    c .columns-within .ensures ∙ answered-on (asked q) (q .check-sizes .ensures) (last q) [] (c .before .enum-told .given .1)
 
 pub check-matrix-spec : {M : Type 1} → statement M
 check-matrix-spec =

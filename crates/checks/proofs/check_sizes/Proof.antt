@@ -23,15 +23,15 @@ abbrev shaped : ℕ → List ℕ → List ℕ → Bool
 shaped n matrices lent = all (eqb (n * n)) matrices && all (eqb n) lent
 
 module _ (n : ℕ) (matrices lent : List ℕ) where
-  stops-1 : sized n ≡ false → refuses 1 0 ≡ verdict (size n ∷ lengths n matrices lent ∷ []) 0
-  stops-1 e = sym (single-failed 1 (lengths n matrices lent ∷ []) 0 e)
+  stops-1 : sized n ≡ false → refuses 0 1 0 ≡ verdict (size n ∷ lengths n matrices lent ∷ []) []
+  stops-1 e = sym (single-failed 1 (lengths n matrices lent ∷ []) [] e)
 
   module _ (one : sized n ≡ true) where
-    stops-2 : shaped n matrices lent ≡ false → refuses 2 0 ≡ verdict (size n ∷ lengths n matrices lent ∷ []) 0
-    stops-2 e = sym (single-passed 1 (lengths n matrices lent ∷ []) 0 one ∙ single-failed 2 [] 0 e)
+    stops-2 : shaped n matrices lent ≡ false → refuses 0 2 0 ≡ verdict (size n ∷ lengths n matrices lent ∷ []) []
+    stops-2 e = sym (single-passed 1 (lengths n matrices lent ∷ []) [] one ∙ single-failed 2 [] [] e)
 
-    goes-on : shaped n matrices lent ≡ true → accepts 0 ≡ verdict (size n ∷ lengths n matrices lent ∷ []) 0
-    goes-on e = sym (single-passed 1 (lengths n matrices lent ∷ []) 0 one ∙ single-passed 2 [] 0 e)
+    goes-on : shaped n matrices lent ≡ true → accepts [] ≡ verdict (size n ∷ lengths n matrices lent ∷ []) []
+    goes-on e = sym (single-passed 1 (lengths n matrices lent ∷ []) [] one ∙ single-passed 2 [] [] e)
 
 -- past question 1
 abbrev entry : tie.Else1 → tie.Start

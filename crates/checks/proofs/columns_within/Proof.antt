@@ -50,7 +50,7 @@ returns : tie.Need-returns Inv-loop μ-loop Inv-scan μ-scan
 returns c =
     let p = c .before in
     let a = p .before .args in
-    sym (passed (columnSums (a .n) (at (a .n) (a .d .now))) [] 0 (p .scan .j) (c .if1 .taken) (p .scan .inv .1))
+    sym (passed (columnSums (a .n) (at (a .n) (a .d .now))) [] [] (p .scan .j) (c .if1 .taken) (p .scan .inv .1))
 
 returns-2 : tie.Need-returns-2 Inv-loop μ-loop Inv-scan μ-scan
 returns-2 c =
@@ -58,7 +58,7 @@ returns-2 c =
     let p = c .before .before .before .before .before in
     let a = p .before .args in
     let over = sum-over (column p) (l .i) _ (l .sum) 950000 (l .inv .1) (c .before .before .loop-test .taken) (c .if2 .taken) in
-    sym (failed-each 7 (a .n) (columnSums (a .n) (at (a .n) (a .d .now)) .passes) [] 0 (p .scan .j) (c .before .before .before .before .if1 .left) (p .scan .inv .1) over)
+    sym (failed-each 7 (a .n) (columnSums (a .n) (at (a .n) (a .d .now)) .passes) [] [] (p .scan .j) (c .before .before .before .before .if1 .left) (p .scan .inv .1) over)
 
 pub columns-within-spec : {M : Type 1} → statement M
 columns-within-spec =

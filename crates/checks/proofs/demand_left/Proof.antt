@@ -28,7 +28,7 @@ returns c =
     let l = c .before .before .before .before .loop in
     let a = c .before .before .before .before .before .before .before .args in
     let h = c .before .before .before .loop-test .taken in
-    sym (failed-each 10 (a .n) (demandLeft (a .n) (at (a .n) (a .d .now)) (a .y .now) .passes) [] 0 (l .i) h (l .inv .1) (lt-leb _ _ (rw (c .before .intermediate-use .ensures) at (c .if1 .taken))))
+    sym (failed-each 10 (a .n) (demandLeft (a .n) (at (a .n) (a .d .now)) (a .y .now) .passes) [] [] (l .i) h (l .inv .1) (lt-leb _ _ (rw (c .before .intermediate-use .ensures) at (c .if1 .taken))))
 
 loop-again : tie.Need-loop-again Inv-loop μ-loop
 loop-again c =
@@ -39,7 +39,7 @@ returns-2 : tie.Need-returns-2 Inv-loop μ-loop
 returns-2 c =
     let l = c .before .loop in
     let a = c .before .before .before .before .args in
-    sym (passed (demandLeft (a .n) (at (a .n) (a .d .now)) (a .y .now)) [] 0 (l .i) (c .loop-test .left) (l .inv .1))
+    sym (passed (demandLeft (a .n) (at (a .n) (a .d .now)) (a .y .now)) [] [] (l .i) (c .loop-test .left) (l .inv .1))
 
 pub demand-left-spec : {M : Type 1} → statement M
 demand-left-spec =

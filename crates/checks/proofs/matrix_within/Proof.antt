@@ -58,7 +58,7 @@ returns c =
     let a = p .before .args in
     let e = p .before .pre in
     let all = mul-le-mul-right (a .n) (c .if1 .taken) in
-    sym (passed (bounded 3 0 (a .limit) (a .x .now)) [] 0 (p .scan .i * a .n) (omega arith) (p .scan .inv .1))
+    sym (passed (bounded 3 0 (a .limit) (a .x .now)) [] [] (p .scan .i * a .n) (omega arith) (p .scan .inv .1))
 
 returns-2 : tie.Need-returns-2 Inv-loop μ-loop Inv-scan μ-scan
 returns-2 c =
@@ -67,7 +67,7 @@ returns-2 c =
     let a = p .before .args in
     let place = p .scan .i * a .n + l .j in
     let h : place < length (a .x .now) = omega (arith, in-matrix (c .before .before), p .before .pre) in
-    sym (failed (bounded 3 0 (a .limit) (a .x .now)) [] 0 place h (l .inv .1) (lt-leb _ _ (c .if2 .taken)) ∙ ap (refuses 3) (zero-add place))
+    sym (failed (bounded 3 0 (a .limit) (a .x .now)) [] [] place h (l .inv .1) (lt-leb _ _ (c .if2 .taken)) ∙ ap (refuses 0 3) (zero-add place))
 
 pub matrix-within-spec : {M : Type 1} → statement M
 matrix-within-spec =

@@ -10,12 +10,12 @@ use Rattle.checks.proofs.next_within.Tie as tie
 returns : tie.Need-returns
 returns c ps e =
     let a = c .before .before .before .before .args in
-    answered-stop ps e (bounded 3 (a .offset) (a .limit) (a .s .now) ∷ []) 0 (c .before .so-far .given .1)
+    answered-stop ps e (bounded 3 (a .offset) (a .limit) (a .s .now) ∷ []) [] (c .before .so-far .given .1)
 
 returns-2 : tie.Need-returns-2
 returns-2 c ps e =
     let a = c .before .before .before .before .args in
-    c .cells-within .ensures ∙ answered-on ps e (bounded 3 (a .offset) (a .limit) (a .s .now) ∷ []) 0 (c .before .enum-told .given .1)
+    c .cells-within .ensures ∙ answered-on ps e (bounded 3 (a .offset) (a .limit) (a .s .now) ∷ []) [] (c .before .enum-told .given .1)
 
 pub next-within-spec : {M : Type 1} → statement M
 next-within-spec =

@@ -6,7 +6,7 @@ use native.Mathlib.Omega.{arith}
 use native.Mathlib.Nat.{lt-suc-self, le-of-eq}
 use native.Mathlib.Numerals.{add-one}
 use Rattle.model.specs.Numbers.{sum, cell}
-use Rattle.model.specs.Checks.{productionTotal}
+use Rattle.model.specs.Checks.{productionLimit, productionTotal}
 use Rattle.theory.proofs.Sums.{sum-more, sum-over, sum-under}
 use Rattle.theory.proofs.Lists.{All, all-none, all-more}
 use Rattle.theory.proofs.Verdicts.{passed, failed-each}
@@ -15,7 +15,7 @@ use Rattle.checks.proofs.total_within.Tie as tie
 
 abbrev Inv-loop : tie.InvT-loop
 Inv-loop n y total₀ i₀ total i =
-    (i ≤ n) × (total ≡ sum i (cell y)) × (total ≤ 1600000000000) × All (productionTotal n y .passes) i
+    (i ≤ n) × (total ≡ sum i (cell y)) × (total ≤ productionLimit) × All (productionTotal n y .passes) i
 
 abbrev μ-loop : tie.MeasureT-loop
 μ-loop n y total₀ i₀ total i = n - i
@@ -24,8 +24,8 @@ returns : tie.Need-returns Inv-loop μ-loop
 returns c =
     let l = c .before .before .before .loop in
     let a = c .before .before .before .before .args in
-    let over = sum-over (cell (a .y .now)) (l .i) (suc (l .i)) (l .total) 1600000000000 (l .inv .1) (lt-suc-self (l .i)) (c .if1 .taken) in
-    sym (failed-each 8 (a .n) (productionTotal (a .n) (a .y .now) .passes) [] 0 (l .i) (omega arith) (l .inv .3) over)
+    let over = sum-over (cell (a .y .now)) (l .i) (suc (l .i)) (l .total) productionLimit (l .inv .1) (lt-suc-self (l .i)) (c .if1 .taken) in
+    sym (failed-each 8 (a .n) (productionTotal (a .n) (a .y .now) .passes) [] [] (l .i) (omega arith) (l .inv .3) over)
 
 loop-again : tie.Need-loop-again Inv-loop μ-loop
 loop-again c =
@@ -33,14 +33,14 @@ loop-again c =
     let a = c .before .before .before .before .args in
     let more = sum-more (cell (a .y .now)) (l .i) (l .total) (l .inv .1) in
     let one = add-one (l .i) in
-    let under = sum-under (cell (a .y .now)) (l .i + 1) (suc (l .i)) _ 1600000000000 more (le-of-eq one) (le-of-eq (sym one)) (omega arith) in
+    let under = sum-under (cell (a .y .now)) (l .i + 1) (suc (l .i)) _ productionLimit more (le-of-eq one) (le-of-eq (sym one)) (omega arith) in
     (omega arith, more, omega arith, all-more _ (l .i) (l .inv .3) under)
 
 returns-2 : tie.Need-returns-2 Inv-loop μ-loop
 returns-2 c =
     let l = c .before .loop in
     let a = c .before .before .args in
-    sym (passed (productionTotal (a .n) (a .y .now)) [] 0 (l .i) (c .loop-test .left) (l .inv .3))
+    sym (passed (productionTotal (a .n) (a .y .now)) [] [] (l .i) (c .loop-test .left) (l .inv .3))
 
 pub total-within-spec : {M : Type 1} → statement M
 total-within-spec =

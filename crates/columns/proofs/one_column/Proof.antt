@@ -66,7 +66,7 @@ returns c =
     let a = entry q .args in
     let m = at (a .n) (a .d .now) in
     let result = q .settle .result in (
-      subst (λ (u : List ℕ). reportRounds result ≡ verdict (single 9 (settles (a .n) m u (a .budget)) ∷ []) (settling (a .n) m u (a .budget))) (demand (entry q)) (q .settle .ensures .0),
+      subst (λ (u : List ℕ). reportRounds result ≡ verdict (single 9 (settles (a .n) m u (a .budget)) ∷ []) (settling (a .n) m u (a .budget) ∷ [])) (demand (entry q)) (q .settle .ensures .0),
       (
         λ i h. p .ensures .0 i h
             ∙ ap (λ (l : List ℕ). cell l i)

@@ -28,7 +28,7 @@ returns : tie.Need-returns
 unfolding impliedReport
 returns c =
     let q = c .before .before .before in
-    answered-stop (asked q) (q .check-production .ensures) (last q) 0 (c .before .given .given .1)
+    answered-stop (asked q) (q .check-production .ensures) (last q) [] (c .before .given .given .1)
 
 demand-left-requires : tie.Need-demand-left-requires
 demand-left-requires c κs =
@@ -41,7 +41,7 @@ returns-2 : tie.Need-returns-2
 unfolding impliedReport
 returns-2 c =
     let q = c .before .before .before in
-    c .demand-left .ensures ∙ answered-on (asked q) (q .check-production .ensures) (last q) 0 (c .before .enum-told .given .1)
+    c .demand-left .ensures ∙ answered-on (asked q) (q .check-production .ensures) (last q) [] (c .before .enum-told .given .1)
 
 pub check-implied-spec : {M : Type 1} → statement M
 check-implied-spec =

@@ -22,7 +22,7 @@ last q = let a = entry q .args in productionTotal (a .n) (a .y .now) ∷ []
 returns : tie.Need-returns
 returns c =
     let q = c .before .before .before in
-    answered-stop (asked q) (q .check-domestic .ensures) (last q) 0 (c .before .matrix .given .1)
+    answered-stop (asked q) (q .check-domestic .ensures) (last q) [] (c .before .matrix .given .1)
 
 total-within-requires : tie.Need-total-within-requires
 total-within-requires c κs =
@@ -33,7 +33,7 @@ total-within-requires c κs =
 returns-2 : tie.Need-returns-2
 returns-2 c =
     let q = c .before .before .before in
-    c .total-within .ensures ∙ answered-on (asked q) (q .check-domestic .ensures) (last q) 0 (c .before .enum-told .given .1)
+    c .total-within .ensures ∙ answered-on (asked q) (q .check-domestic .ensures) (last q) [] (c .before .enum-told .given .1)
 
 pub check-production-spec : {M : Type 1} → statement M
 check-production-spec =

@@ -5,9 +5,8 @@ use borrow.Author.Needs.{needs}
 use lib.ListN.{length}
 use Rattle.model.specs.Checks.{Report, accepts, report}
 use Rattle.model.specs.Calls.{impliedReport}
-use Rattle.theory.proofs.Lists.{all-equal}
 use Rattle.theory.proofs.Answers.{accepted-implied}
-use Rattle.theory.proofs.Promises.{implied-fits, implied-keeps}
+use Rattle.theory.proofs.Promises.{implied, implied-fits}
 use Rattle.implied.proofs.implied_demand.Statement.{statement}
 use Rattle.implied.proofs.implied_demand.Tie as tie
 
@@ -18,16 +17,15 @@ entry q = q .before .before .before .before
 accepted :
     (p : tie.After-enum-told) →
     let a = entry (p .before .before) .args in
-    accepts 0 ≡ impliedReport (a .n) (a .d .now) (a .production .now) (length (a .out .now) ∷ [])
+    accepts [] ≡ impliedReport (a .n) (a .d .now) (a .production .now) (length (a .out .now) ∷ [])
 accepted p = sym (ap report (p .enum-told .given .1)) ∙ p .before .before .check-implied .ensures
 
 subtract-requires : tie.Need-subtract-requires
 subtract-requires c κs =
     let p = c .before in
     let a = entry (p .before .before) .args in
-    let lo = length (a .out .now) in
-    let g = accepted-implied (a .n) (a .d .now) (a .production .now) (lo ∷ []) (ap (λ (r : Report). r .accepted) (sym (accepted p))) in
-    ((g .0 .matrix .cells, g .0 .cells, all-equal (a .n) lo [] (g .0 .slices) .0), (implied-fits (g .0 .matrix) (a .production .now) (g .0 .total), g .1))
+    let g = accepted-implied (a .n) (a .d .now) (a .production .now) (length (a .out .now) ∷ []) (ap (λ (r : Report). r .accepted) (sym (accepted p))) in
+    ((g .0 .matrix .cells, g .0 .cells, g .0 .slices .0), (implied-fits (g .0 .matrix) (a .production .now) (g .0 .total), g .1))
 
 returns : tie.Need-returns
 returns c =
@@ -36,14 +34,14 @@ returns c =
     let a = entry q .args in
     let e = sym (ap report (k .checked .given .1)) ∙ q .check-implied .ensures in
     let o = c .before .before .fill-zero .ensures in
-    (e, (o, implied-keeps (a .n) (a .d .now) (a .production .now) (length (a .out .now)) e o))
+    implied (a .n) (a .d .now) (a .production .now) (a .out .now) e o
 
 returns-2 : tie.Need-returns-2
 returns-2 c =
     let p = c .before .before .before .before in
     let a = entry (p .before .before) .args in
     let o = c .before .before .subtract .ensures in
-    (accepted p, (o, implied-keeps (a .n) (a .d .now) (a .production .now) (length (a .out .now)) (accepted p) o))
+    implied (a .n) (a .d .now) (a .production .now) (a .out .now) (accepted p) o
 
 pub implied-demand-spec : {M : Type 1} → statement M
 implied-demand-spec =

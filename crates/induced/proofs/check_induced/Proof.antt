@@ -37,17 +37,17 @@ lengths-are p =
     let s = answered-pass (sizes q) (q .check-sizes .ensures) (p .enum-told .given .1) in
     induced-sizes (a .n) (a .a .now) (a .m .now) (a .v .now) (a .final-demand .now) (length (a .y .now)) (a .value-len ∷ a .imports-len ∷ []) (s .0) (s .1 .0)
 
-said : (r : tie.After-check-amounts) → let q = r .before .before .before in report (r .check-amounts .result) ≡ verdict (sizes q ++ amounts q) 0
+said : (r : tie.After-check-amounts) → let q = r .before .before .before in report (r .check-amounts .result) ≡ verdict (sizes q ++ amounts q) []
 said r =
     let p = r .before in
     let q = p .before .before in
-    r .check-amounts .ensures ∙ answered-on (sizes q) (q .check-sizes .ensures) (amounts q) 0 (p .enum-told .given .1)
+    r .check-amounts .ensures ∙ answered-on (sizes q) (q .check-sizes .ensures) (amounts q) [] (p .enum-told .given .1)
 
 returns : tie.Need-returns
 unfolding inducedReport
 returns c =
     let q = c .before .before .before in
-    answered-stop (sizes q) (q .check-sizes .ensures) (amounts q ++ last q) 0 (c .before .sizes .given .1)
+    answered-stop (sizes q) (q .check-sizes .ensures) (amounts q ++ last q) [] (c .before .sizes .given .1)
 
 check-amounts-requires : tie.Need-check-amounts-requires
 check-amounts-requires c κs =
@@ -59,14 +59,14 @@ unfolding inducedReport
 returns-2 c =
     let r = c .before .before .before in
     let q = r .before .before .before in
-    answered-stop (sizes q ++ amounts q) (said r) (last q) 0 (c .before .amounts .given .1)
+    answered-stop (sizes q ++ amounts q) (said r) (last q) [] (c .before .amounts .given .1)
 
 returns-3 : tie.Need-returns-3
 unfolding inducedReport
 returns-3 c =
     let r = c .before .before .before in
     let q = r .before .before .before in
-    c .total-within .ensures ∙ answered-on (sizes q ++ amounts q) (said r) (last q) 0 (c .before .enum-told2 .given .1)
+    c .total-within .ensures ∙ answered-on (sizes q ++ amounts q) (said r) (last q) [] (c .before .enum-told2 .given .1)
 
 pub check-induced-spec : {M : Type 1} → statement M
 check-induced-spec =

@@ -7,6 +7,7 @@ use lib.ListN.{length, length-set}
 use Rattle.model.specs.Numbers.{one, at, cell}
 use Rattle.model.specs.Table.{portion}
 use Rattle.model.specs.Rounds.{weighted, intermediate, inducedImports}
+use Rattle.model.specs.Checks.{productionLimit}
 use Rattle.theory.proofs.Sums.{cell-in}
 use Rattle.theory.proofs.Lists.{Agree, agree-none, agree-set, tabulated}
 use Rattle.theory.proofs.Rounds.{weighted-shares, intermediate-within}
@@ -27,7 +28,7 @@ entry p = p .before .before .before .before .before .before
 fits :
     (c : tie.In-loop Inv-loop μ-loop) →
     let a = entry (c .before) .args in
-    weighted (a .n) (at (a .n) (a .a .now)) (cell (a .y .now)) (c .before .loop .i) ≤ one * 1600000000000
+    weighted (a .n) (at (a .n) (a .a .now)) (cell (a .y .now)) (c .before .loop .i) ≤ one * productionLimit
 fits c =
     let s = entry (c .before) in
     let a = s .args in
@@ -40,7 +41,7 @@ fits c =
 needed :
     (q : tie.After-intermediate-use Inv-loop μ-loop) →
     let a = entry (q .before .before) .args in
-    (q .intermediate-use .result ≤ 1600000000000) × (cell (a .final-demand .now) (q .before .before .loop .i) ≤ 1000000000)
+    (q .intermediate-use .result ≤ productionLimit) × (cell (a .final-demand .now) (q .before .before .loop .i) ≤ 1000000000)
 needed q =
     let s = entry (q .before .before) in
     let a = s .args in

@@ -5,7 +5,6 @@ use borrow.Author.Needs.{needs}
 use lib.ListN.{length}
 use Rattle.model.specs.Checks.{Report, accepts, report}
 use Rattle.model.specs.Calls.{inducedReport}
-use Rattle.theory.proofs.Lists.{all-equal}
 use Rattle.theory.proofs.Answers.{InducedGiven, accepted-induced}
 use Rattle.induced.proofs.induced.Statement.{statement}
 use Rattle.induced.proofs.induced.Tie as tie
@@ -17,7 +16,7 @@ entry q = q .before .before .before .before .before .before .before .before
 accepted :
     (p : tie.After-enum-told) →
     let a = entry (p .before .before) .args in
-    accepts 0 ≡ inducedReport (a .n) (a .a .now) (a .m .now) (a .v .now) (a .final-demand .now) (a .production .now) (length (a .value .now) ∷ length (a .imports .now) ∷ [])
+    accepts [] ≡ inducedReport (a .n) (a .a .now) (a .m .now) (a .v .now) (a .final-demand .now) (a .production .now) (length (a .value .now) ∷ length (a .imports .now) ∷ [])
 accepted p = sym (ap report (p .enum-told .given .1)) ∙ p .before .before .check-induced .ensures
 
 given :
@@ -29,40 +28,30 @@ given p =
     accepted-induced (a .n) (a .a .now) (a .m .now) (a .v .now) (a .final-demand .now) (a .production .now) (length (a .value .now) ∷ length (a .imports .now) ∷ [])
     (ap (λ (r : Report). r .accepted) (sym (accepted p)))
 
--- the lengths of the outputs
-outputs-are :
-    (p : tie.After-enum-told) →
-    let a = entry (p .before .before) .args in
-    (length (a .value .now) ≡ a .n) × (length (a .imports .now) ≡ a .n)
-outputs-are p =
-    let a = entry (p .before .before) .args in
-    let l = all-equal (a .n) (length (a .value .now)) (length (a .imports .now) ∷ []) (given p .sizes .slices) in
-    (l .0, all-equal (a .n) (length (a .imports .now)) [] (l .1) .0)
-
 fill-value-added-requires : tie.Need-fill-value-added-requires
 fill-value-added-requires c κs =
     let p = c .before in
     let g = given p in
-    ((g .sizes .values, g .sizes .production, outputs-are p .0), (g .values-small, g .total))
+    ((g .sizes .values, g .sizes .production, g .sizes .slices .0), (g .values-small, g .total))
 
 fill-imports-requires : tie.Need-fill-imports-requires
 fill-imports-requires c κs =
     let p = c .before .before .before .before .before in
     let g = given p in
     let s = g .sizes in
-    ((s .inputs, s .imports, s .demand, s .production, outputs-are p .1), (g .inputs-small, (g .imports-small, (g .demand-small, g .total))))
+    ((s .inputs, s .imports, s .demand, s .production, s .slices .1 .0), (g .inputs-small, (g .imports-small, (g .demand-small, g .total))))
 
 returns : tie.Need-returns
 returns c =
     let k = c .before .before .before .before .before .before .before .before .before in
     let q = k .before .before in
     let e = sym (ap report (k .checked .given .1)) ∙ q .check-induced .ensures in
-    (e, (c .before .before .before .before .before .before .fill-zero .ensures, c .before .before .fill-zero2 .ensures))
+    record { answer = e; values = c .before .before .before .before .before .before .fill-zero .ensures; imported = c .before .before .fill-zero2 .ensures }
 
 returns-2 : tie.Need-returns-2
 returns-2 c =
     let p = c .before .before .before .before .before .before .before .before in
-    (accepted p, (c .before .before .before .before .before .before .fill-value-added .ensures, c .before .before .fill-imports .ensures))
+    record { answer = accepted p; values = c .before .before .before .before .before .before .fill-value-added .ensures; imported = c .before .before .fill-imports .ensures }
 
 pub induced-spec : {M : Type 1} → statement M
 induced-spec =

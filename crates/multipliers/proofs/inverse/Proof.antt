@@ -10,7 +10,6 @@ use Rattle.model.specs.Rounds.{dispersion, inverse}
 use Rattle.model.specs.Checks.{Report, reportRounds, output}
 use Rattle.model.specs.declared.Outcome.{Outcome}
 use Rattle.dispersion.specs.Columns.{Dispersed}
-use Rattle.theory.proofs.Lists.{all-equal}
 use Rattle.theory.proofs.Verdicts.{output-given}
 use Rattle.columns.proofs.Leontief.{accepted-inverse}
 use Rattle.multipliers.proofs.Ready.{inverse-ready}
@@ -50,8 +49,7 @@ ready p =
     let ls = length (a .sensitivity .now) in
     let said = ap (λ (r : Report). r .accepted) (sym (q .fill-inverse .ensures .0)) ∙ accepted p in
     let r = accepted-inverse (a .n) (a .d .now) (a .budget) (length (a .sheet .now) ∷ []) (lp ∷ ls ∷ []) said in
-    let l = all-equal (a .n) lp (ls ∷ []) (r .1) in
-    (inverse-ready (r .0) (a .budget) (made p), l .0, all-equal (a .n) ls [] (l .1) .0)
+    (inverse-ready (r .0) (a .budget) (made p), r .1 .0, r .1 .1 .0)
 
 fill-dispersion-requires : tie.Need-fill-dispersion-requires
 fill-dispersion-requires c κs =
@@ -68,30 +66,27 @@ returns c =
     let k = c .before .before .before .before .before .before .before .before .before in
     let q = k .before .before .before .before in
     let a = entry q .args in
-    let e = k .outcome .given .1 in (
-      sym (ap reportRounds e) ∙ q .fill-inverse .ensures .0,
-      (
-        q .fill-inverse .ensures .1
-            ∙ ap (λ (o : Outcome). output (reportRounds o) (length (a .sheet .now)) (inverse (a .n) (a .d .now) (a .budget))) e,
-        (c .before .before .before .before .before .before .fill-zero .ensures, c .before .before .fill-zero2 .ensures),
-      ),
-    )
+    let e = k .outcome .given .1 in
+    record {
+      answer = sym (ap reportRounds e) ∙ q .fill-inverse .ensures .0;
+      sheets = q .fill-inverse .ensures .1
+          ∙ ap (λ (o : Outcome). output (reportRounds o) (length (a .sheet .now)) (inverse (a .n) (a .d .now) (a .budget))) e;
+      powers = c .before .before .before .before .before .before .fill-zero .ensures;
+      sensitivities = c .before .before .fill-zero2 .ensures;
+    }
 
 returns-2 : tie.Need-returns-2
 returns-2 c =
     let r = c .before .before .before .before .before .before .before in
     let p = r .before .before .before in
     let q = filled p in
-    let n = entry q .args .n in (
-      q .fill-inverse .ensures .0,
-      (
-        q .fill-inverse .ensures .1,
-        (
-          rw (accepted p) (r .fill-dispersion .ensures ∙ ap (λ (s : List ℕ). dispersion n (at n s)) (made p)),
-          rw (accepted p) (c .before .before .fill-dispersion2 .ensures ∙ ap (λ (s : List ℕ). dispersion n (transposed (at n s))) (made p)),
-        ),
-      ),
-    )
+    let n = entry q .args .n in
+    record {
+      answer = q .fill-inverse .ensures .0;
+      sheets = q .fill-inverse .ensures .1;
+      powers = rw (accepted p) (r .fill-dispersion .ensures ∙ ap (λ (s : List ℕ). dispersion n (at n s)) (made p));
+      sensitivities = rw (accepted p) (c .before .before .fill-dispersion2 .ensures ∙ ap (λ (s : List ℕ). dispersion n (transposed (at n s))) (made p));
+    }
 
 pub inverse-spec : {M : Type 1} → statement M
 inverse-spec =

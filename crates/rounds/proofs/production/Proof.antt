@@ -1,9 +1,7 @@
--- `rounds::production` meets its contract: what `solve` gives, and what the theory says of it. Assumes nothing.
-use mathlib.Core.List.{[], _∷_}
+-- `rounds::production` meets its contract: what `solve` gives keeps every promise. Assumes nothing.
 use borrow.Author.Needs.{needs}
-use lib.ListN.{length}
 use Rattle.model.specs.Calls.{productionReport}
-use Rattle.theory.proofs.Promises.{production-keeps}
+use Rattle.theory.proofs.Promises.{produced}
 use Rattle.rounds.proofs.production.Statement.{statement}
 use Rattle.rounds.proofs.production.Tie as tie
 
@@ -12,8 +10,7 @@ unfolding productionReport
 returns c =
     let e = c .before .before .before .before .solve .ensures in
     let a = c .before .before .before .before .before .before .before .before .before .before .before .args in
-    let lent = length (a .out .now) ∷ length (a .work .now) ∷ [] in
-    (e .0, (e .1 .0, (e .1 .1, production-keeps (a .n) (a .d .now) (a .f .now) (a .budget) (length (a .out .now)) lent (e .0) (e .1 .0))))
+    produced (a .n) (a .d .now) (a .f .now) (a .budget) (a .out .now) (a .work .now) (e .0) (e .1 .0) (e .1 .1)
 
 pub production-spec : {M : Type 1} → statement M
 production-spec =

@@ -9,7 +9,6 @@ use Rattle.model.specs.Numbers.{at, oriented}
 use Rattle.model.specs.Rounds.{settling, settled}
 use Rattle.model.specs.Checks.{Check, reportRounds, output, bounded, single, settles}
 use Rattle.model.specs.Calls.{matrixChecks}
-use Rattle.theory.proofs.Lists.{all-equal}
 use Rattle.theory.proofs.Verdicts.{answered-pass, answered-on, answered-stop}
 use Rattle.theory.proofs.Answers.{Started, started}
 use Rattle.rounds.proofs.solve.Statement.{statement}
@@ -33,8 +32,8 @@ asked q =
 abbrev last : tie.After-check-start → List Check
 last q = let a = entry q .args in single 9 (settles (a .n) (coefficients q) (a .start .now) (a .budget)) ∷ []
 
-abbrev count : tie.After-check-start → ℕ
-count q = let a = entry q .args in settling (a .n) (coefficients q) (a .start .now) (a .budget)
+abbrev counts : tie.After-check-start → List ℕ
+counts q = let a = entry q .args in settling (a .n) (coefficients q) (a .start .now) (a .budget) ∷ []
 
 started-at :
     (p : tie.After-enum-told) →
@@ -51,10 +50,7 @@ lengths-are :
     (p : tie.After-enum-told) →
     let a = entry (p .before .before) .args in
     (length (a .out .now) ≡ a .n) × (length (a .work .now) ≡ a .n)
-lengths-are p =
-    let a = entry (p .before .before) .args in
-    let l = all-equal (a .n) (length (a .out .now)) (length (a .work .now) ∷ []) (started-at p .slices) in
-    (l .0, all-equal (a .n) (length (a .work .now)) [] (l .1) .0)
+lengths-are p = let l = started-at p .slices in (l .0, l .1 .0)
 
 settle-requires : tie.Need-settle-requires
 settle-requires c κs =
@@ -67,7 +63,7 @@ returns : tie.Need-returns
 returns c =
     let k = c .before .before .before .before .before .before .before .before .before in
     let q = k .before .before in
-    let e = answered-stop (asked q) (q .check-start .ensures) (last q) (count q) (k .checked .given .1) in
+    let e = answered-stop (asked q) (q .check-start .ensures) (last q) (counts q) (k .checked .given .1) in
     (e, (c .before .before .before .before .before .before .fill-zero .ensures, c .before .before .fill-zero2 .ensures))
 
 returns-2 : tie.Need-returns-2
@@ -77,7 +73,7 @@ returns-2 c =
     let q = p .before .before in
     let a = entry q .args in
     let l = lengths-are p in (
-      r .settle .ensures .0 ∙ answered-on (asked q) (q .check-start .ensures) (last q) (count q) (p .enum-told .given .1),
+      r .settle .ensures .0 ∙ answered-on (asked q) (q .check-start .ensures) (last q) (counts q) (p .enum-told .given .1),
       (
         r .settle .ensures .1 .0 ∙ ap (λ (k : ℕ). output (reportRounds (r .settle .result)) k (settled (a .n) (coefficients q) (a .start .now) (a .budget))) (sym (l .0)),
         r .settle .ensures .1 .1 ∙ ap (λ (k : ℕ). replicate k 0) (sym (l .1)),

@@ -30,14 +30,14 @@ portion-of-requires c κs =
     let p = c .before .before .before in
     let s = entry p in
     let rest = sub-le 1000000 (cell (s .args .m .now) (p .loop .i)) in
-    omega (arith, mul-le-mul rest (s .pre .1 .1 (p .loop .i) (c .before .before .loop-test .taken) .0))
+    omega (arith, mul-le-mul rest (s .pre .1 .1 (p .loop .i) .0))
 
 add-f : tie.Need-add-f Inv-loop μ-loop
 add-f c =
     let p = c .before .before .before .before .before in
     let s = entry p in
     let i = p .loop .i in
-    let small = s .pre .1 .1 i (c .before .before .before .before .loop-test .taken) in
+    let small = s .pre .1 .1 i in
     let m = cell (s .args .m .now) i in
     omega (arith, c .before .portion-of .ensures, portion-le (one - m) (cell (s .args .final-demand .now) i) (sub-le one m), small .0, small .1)
 

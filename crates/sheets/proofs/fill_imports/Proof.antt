@@ -31,7 +31,7 @@ need-of-requires c κs =
 share-of-requires : tie.Need-share-of-requires Inv-loop μ-loop
 share-of-requires c κs =
     let p = c .before .before .before in
-    entry p .pre .1 .1 .1 (p .loop .i) (c .before .before .loop-test .taken)
+    entry p .pre .1 .1 .1 (p .loop .i)
 
 loop-again : tie.Need-loop-again Inv-loop μ-loop
 loop-again c =

@@ -48,7 +48,7 @@ shared-slice-read-share-of-2 c =
 share-of-requires : tie.Need-share-of-requires Inv-loop μ-loop
 share-of-requires c κs =
     let p = c .before .before .before in
-    entry p .pre .1 (p .loop .k) (c .before .before .loop-test .taken)
+    entry p .pre .1 (p .loop .k)
 
 loop-again : tie.Need-loop-again Inv-loop μ-loop
 loop-again c =

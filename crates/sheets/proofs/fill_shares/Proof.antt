@@ -26,7 +26,7 @@ loop-holds c =
 share-of-requires : tie.Need-share-of-requires Inv-loop μ-loop
 share-of-requires c κs =
     let p = c .before .before .before in
-    entry p .pre .1 (p .loop .j) (c .before .before .loop-test .taken)
+    entry p .pre .1 (p .loop .j)
 
 loop-again : tie.Need-loop-again Inv-loop μ-loop
 loop-again c =

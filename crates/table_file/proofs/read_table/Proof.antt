@@ -1,18 +1,23 @@
 -- `table_file::read_table` meets its contract. Assumes nothing.
-use mathlib.Core.Path.{refl}
+use mathlib.Core.Path.{refl, ap}
 use borrow.Author.Needs.{needs}
+use Rattle.model.specs.Checks.{reportRead}
 use Rattle.table_file.proofs.read_table.Statement.{statement}
 use Rattle.table_file.proofs.read_table.Tie as tie
 
--- from what is delivered to the reading
+-- from what is delivered to the reading, and from there to the call
 abbrev read : tie.After-deliver → tie.After-read-called
 read d = d .before .before .before .before .before .before .before .before .before .before .before .before
+
+abbrev start : tie.After-read-called → tie.Start
+start q = q .before .before .before .before .before .before .before .before .before .before .before .before .before
 
 returns : tie.Need-returns
 returns c =
     let d = c .before .before .before .before .before .before .before .before .before .before .before .before .before .before in
     let t = read d .read-called .ensures in
-    (t .0, (d .deliver .ensures _ _ _ refl (t .1), t .2))
+    let a = start (read d) .args in
+    record { answer = ap reportRead (t .0); delivered = d .deliver .ensures (a .marks .now) (a .file .now) _ refl (t .1); cleared = t .2 }
 
 pub read-table-spec : {M : Type 1} → statement M
 read-table-spec =

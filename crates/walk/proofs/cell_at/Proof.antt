@@ -12,6 +12,7 @@ use Rattle.theory.specs.Files.{Within}
 use Rattle.walk.specs.Steps.{Agrees, Names}
 use Rattle.walk.proofs.WalkLaws.{outside, twice, fresh}
 use Rattle.walk.proofs.NameLaws.{bodied, sectors-of, within-of, names-of}
+use Rattle.walk.proofs.Loops.{takes}
 use Rattle.walk.proofs.cell_at.Statement.{statement}
 use Rattle.walk.proofs.cell_at.Tie as tie
 
@@ -36,10 +37,13 @@ told c es a =
     ∙ ap₂ (marked (s .args .marks .now)) (sym (c .before .before .line-at .ensures)) (sym (c .before .position-at .ensures))
     ∙ sym (c .is-marked .ensures)
 
-names : (c : tie.After-record-length) → let s = c .before .before .before .before .before .before .before .before .before .before in Names (s .args .file .now) (s .args .n) (s .args .at) (s .args .at + c .record-length .result)
+names :
+    (c : tie.After-record-length) →
+    let s = entry (c .before .before .before .before .before .before .before) in
+    Names (s .args .file .now) (s .args .n) (s .args .at) (entryAt (s .args .file .now) (s .args .at)) (s .args .at + c .record-length .result)
 names c =
-    let s = c .before .before .before .before .before .before .before .before .before .before in
-    names-of (s .args .file .now) (s .args .at) (s .pre .2) (s .pre .3) (s .args .n) (s .pre .0) (inside (c .before .before .before .before .before .before)) (c .record-length .result) (c .record-length .ensures)
+    let s = entry (c .before .before .before .before .before .before .before) in
+    names-of (s .args .file .now) (s .args .at) (s .pre .2) (s .pre .3) (s .args .n) (s .pre .0) (inside (c .before .before .before .before .before .before .before)) (c .record-length .result) (c .record-length .ensures)
 
 is-inside-requires : tie.Need-is-inside-requires
 is-inside-requires c κs = let s = c .before .before in bodied (s .args .file .now) (s .args .at) (s .pre .2) (s .pre .3)
@@ -71,19 +75,24 @@ returns-2 c =
     let s = entry (q .before .before .before) in
     λ fuel es a. twice (s .args .file .now) (s .args .n) (s .args .at) fuel es (s .pre .2) (s .pre .3) (inside (q .before .before .before)) (told q es a ∙ c .if2 .taken)
 
+amount-at-requires : tie.Need-amount-at-requires
+amount-at-requires c κs = let s = entry (c .before .before .before .before) in bodied (s .args .file .now) (s .args .at) (s .pre .2) (s .pre .3)
+
 returns-3 : tie.Need-returns-3
 returns-3 c =
-    let q = c .before .before .before in
-    let s = entry (q .before .before .before) in (
-      λ fuel es a.
-          fresh (s .args .file .now) (s .args .n) (s .args .at) fuel es (s .pre .2) (s .pre .3) (inside (q .before .before .before)) (told q es a ∙ c .before .before .if2 .left)
-          ∙ ap (λ (z : ℕ). walk fuel (s .args .file .now) (s .args .n) (entryAt (s .args .file .now) (s .args .at) ∷ es) (s .args .at + z)) (sym (c .record-length .ensures)),
-      names c,
-    )
+    let q = c .before .before .before .before in
+    let s = entry (q .before .before .before) in
+    let f = s .args .file .now in
+    let at = s .args .at in
+    takes f (s .args .n) at (s .args .marks .now) (entryAt f at) _ _ _ _ (c .before .before .before .before .before .before .line-at .ensures) (c .before .before .before .before .before .position-at .ensures) (c .before .before .amount-at .ensures .0)
+    (λ fuel es a.
+    fresh f (s .args .n) at fuel es (s .pre .2) (s .pre .3) (inside (q .before .before .before)) (told q es a ∙ c .before .before .before .if2 .left)
+    ∙ ap (λ (z : ℕ). walk fuel f (s .args .n) (entryAt f at ∷ es) (at + z)) (sym (c .record-length .ensures)))
+    (names c)
 
 pub cell-at-spec : {M : Type 1} → statement M
 cell-at-spec =
     tie.close
     (tie.spec
-    is-inside-requires returns line-at-requires position-at-requires is-marked-requires returns-2 (λ c. search needs)
-    (λ c κs. search needs) (λ c. let m = names c .inside in omega arith) returns-3)
+    is-inside-requires returns line-at-requires position-at-requires is-marked-requires returns-2 amount-at-requires
+    (λ c. search needs) (λ c κs. search needs) (λ c. let m = names c .inside in omega arith) returns-3)

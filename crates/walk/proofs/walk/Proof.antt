@@ -67,7 +67,7 @@ keep-requires c κs =
     let k = c .before .before in
     let p = head (before-keep k) in
     let m = asked (before-keep k) _ (k .before .step2 .given .1) .1 in
-    (entry p .pre .0, p .loop .inv .0 .kept .held .long, p .loop .inv .0 .kept .agrees .words, m .body, m .sectors, m .within)
+    (entry p .pre .0, p .loop .inv .0 .kept .held .long, p .loop .inv .0 .kept .agrees .words, m .within)
 
 add-named : tie.Need-add-named Inv-loop μ-loop
 add-named c =
@@ -88,7 +88,8 @@ loop-again : tie.Need-loop-again Inv-loop μ-loop
 loop-again c =
     let k = told c in
     let i = head (before-keep k) .loop .inv in
-    (goes-on _ _ _ _ _ _ (i .0) _ _ _ (asked (before-keep k) _ (k .before .step2 .given .1)) (after-keep c .keep .ensures), i .1, i .2)
+    let g = k .before .step2 .given .0 in
+    (goes-on _ _ _ _ _ _ (i .0) (record { line = g .0; position = g .1 .0; amount = g .1 .1 .0 }) _ _ _ (asked (before-keep k) _ (k .before .step2 .given .1)) (after-keep c .keep .ensures), i .1, i .2)
 
 pub walk-spec : {M : Type 1} → statement M
 walk-spec =

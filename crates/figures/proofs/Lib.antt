@@ -1,0 +1,2 @@
+-- The figures at the way out of each call.
+pub mod Stages

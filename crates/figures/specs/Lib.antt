@@ -1,0 +1,2 @@
+-- What contracts of the figures cite beside the definitions of `model`.
+pub mod Stages

@@ -1,0 +1,110 @@
+-- What each call promises, as a record of named clauses: of what it is lent (before the call with ₀), of its answer r in the paper's numbers, and
+-- of its slices after the call. A call says it of `report answer`, its C function of `reportTold number place counts`. No result is left open:
+-- number, place, counts and every lent cell are those of the definitions.
+use mathlib.Core.Path.{_≡_}
+use mathlib.Core.Bool.{true}
+use mathlib.Core.List.{List, [], _∷_}
+use Prim.Native.Nat.{ℕ}
+use lib.ListN.{length, replicate}
+use Rattle.model.specs.Numbers.{Cells, at, transposed}
+use Rattle.model.specs.Table.{Table}
+use Rattle.model.specs.Rounds.{settled, Settles, impliedDemand, inducedValueAdded, inducedImports, inverse, dispersion}
+use Rattle.model.specs.Checks.{Report, accepts, output, reportRead, roundsOf}
+use Rattle.model.specs.Calls.{coefficientsReport, inputCoefficients, valueAddedCoefficients, importCoefficients, domesticCoefficients, domesticDemands, productionReport, priceReport, impliedReport, inducedReport, inverseReport}
+use Rattle.model.specs.Promises.{Distinguishes, Accurate, AccuratePrices, Returns, NotAbove}
+use Rattle.model.specs.File.{Reading, called, answerOf, flowsRead, columnRead}
+use Rattle.model.specs.Page.{pageReport, pageBytes}
+
+-- Sheets from a table t: a, v, m, d and f
+pub record Derived (t : Table) (a₀ v₀ m₀ d₀ f₀ : Cells) (r : Report) (a v m d f : Cells) : Type 0 where
+  pub answer : r ≡ coefficientsReport t (length a₀ ∷ length d₀ ∷ []) (length v₀ ∷ length m₀ ∷ length f₀ ∷ [])
+  pub inputs : a ≡ output r (length a₀) (inputCoefficients t)
+  pub values : v ≡ output r (length v₀) (valueAddedCoefficients t)
+  pub imports : m ≡ output r (length m₀) (importCoefficients t)
+  pub domestic : d ≡ output r (length d₀) (domesticCoefficients t)
+  pub demands : f ≡ output r (length f₀) (domesticDemands t)
+
+-- Production from a demand f for domestic goods. Demand 3 is `distinct` and `accurate`: an accepted production differs from that of every other
+-- demand, and only from those; and against every exact balance it is nowhere too high, and all sectors together lack less than 20 × n
+pub record Produced (n : ℕ) (d f : Cells) (budget : ℕ) (out₀ work₀ : Cells) (r : Report) (out work : Cells) : Type 0 where
+  pub answer : r ≡ productionReport n d f budget (length out₀ ∷ length work₀ ∷ [])
+  pub outputs : out ≡ output r (length out₀) (settled n (at n d) f budget)
+  pub cleared : work ≡ replicate (length work₀) 0
+  -- its count is that of the first round that changes no sector, whatever the budget
+  pub settles : r .accepted ≡ true → Settles n (at n d) f (roundsOf r) out
+  pub distinct : r .accepted ≡ true → Distinguishes n d f out
+  pub accurate : r .accepted ≡ true → Accurate n d f out
+
+-- Price rises from direct rises w. `accurate`: against every exact balance of the column direction an accepted rise is nowhere above it, and in each
+-- sector lacks less than 20 millionths
+pub record Priced (n : ℕ) (d w : Cells) (budget : ℕ) (out₀ work₀ : Cells) (r : Report) (out work : Cells) : Type 0 where
+  pub answer : r ≡ priceReport n d w budget (length out₀ ∷ length work₀ ∷ [])
+  pub outputs : out ≡ output r (length out₀) (settled n (transposed (at n d)) w budget)
+  pub cleared : work ≡ replicate (length work₀) 0
+  pub settles : r .accepted ≡ true → Settles n (transposed (at n d)) w (roundsOf r) out
+  pub accurate : r .accepted ≡ true → AccuratePrices n d w out
+
+-- The demand for domestic goods behind a production y. Demand 2 is `returns` and `inverse`: for a production that rounds have settled it is the demand
+-- that they started from, and every production that the call of that name gives is accepted here and gives its demand back. Going back and then
+-- forward need not return, which the paper leaves open: what holds is `back`, that the production settled from it is nowhere above y
+pub record Implied (n : ℕ) (d y out₀ : Cells) (r : Report) (out : Cells) : Type 0 where
+  pub answer : r ≡ impliedReport n d y (length out₀ ∷ [])
+  pub outputs : out ≡ output r (length out₀) (impliedDemand n (at n d) y)
+  pub returns : r .accepted ≡ true → Returns n d y out
+  pub back : r .accepted ≡ true → NotAbove n d y out
+  pub inverse : (f : Cells) (budget : ℕ) (lent : List ℕ) → productionReport n d f budget lent .accepted ≡ true → y ≡ settled n (at n d) f budget → length out₀ ≡ n
+      → (r ≡ accepts []) × (out ≡ f)
+
+-- Value added and imports that a production y induces
+pub record Induced (n : ℕ) (a m v F y value₀ imports₀ : Cells) (r : Report) (value imports : Cells) : Type 0 where
+  pub answer : r ≡ inducedReport n a m v F y (length value₀ ∷ length imports₀ ∷ [])
+  pub values : value ≡ output r (length value₀) (inducedValueAdded n v y)
+  pub imported : imports ≡ output r (length imports₀) (inducedImports n (at n a) m F y)
+
+-- The Leontief inverse of a domestic sheet, with the power and the sensitivity of dispersion of its sectors
+pub record Inverted (n : ℕ) (d : Cells) (budget : ℕ) (sheet₀ power₀ sensitivity₀ : Cells) (r : Report) (sheet power sensitivity : Cells) : Type 0 where
+  pub answer : r ≡ inverseReport n d budget (length sheet₀ ∷ []) (length power₀ ∷ length sensitivity₀ ∷ [])
+  pub sheets : sheet ≡ output r (length sheet₀) (inverse n d budget)
+  pub powers : power ≡ output r (length power₀) (dispersion n (at n (inverse n d budget)))
+  pub sensitivities : sensitivity ≡ output r (length sensitivity₀) (dispersion n (transposed (at n (inverse n d budget))))
+
+-- The slices that a table file is read into: x, F, E, M, V, X and the rises
+pub record Slices : Type 0 where
+  pub flows : Cells
+  pub finalDemand : Cells
+  pub exports : Cells
+  pub imports : Cells
+  pub valueAdded : Cells
+  pub production : Cells
+  pub rises : Cells
+
+abbrev pub slicesOf : (x f e m v p w : Cells) → Slices
+slicesOf x f e m v p w =
+    record { flows = x; finalDemand = f; exports = e; imports = m; valueAdded = v; production = p; rises = w }
+
+-- the reading of a file into slices and work words of these lengths
+abbrev pub readingInto : (file : Cells) (s₀ : Slices) (marks₀ : Cells) → Reading
+readingInto file s₀ marks₀ =
+    let columns = length (s₀ .finalDemand) ∷ length (s₀ .exports) ∷ length (s₀ .imports) ∷ length (s₀ .valueAdded) ∷ length (s₀ .production) ∷ length (s₀ .rises) ∷ [] in
+    called (length (s₀ .flows)) columns (length marks₀) file
+
+-- what a reading leaves in the slices; the columns by their lines
+pub record Delivered (o : Reading) (s₀ s : Slices) : Type 0 where
+  pub flows : s .flows ≡ flowsRead (length (s₀ .flows)) o
+  pub finalDemand : s .finalDemand ≡ columnRead 40 (length (s₀ .finalDemand)) o
+  pub exports : s .exports ≡ columnRead 41 (length (s₀ .exports)) o
+  pub imports : s .imports ≡ columnRead 42 (length (s₀ .imports)) o
+  pub valueAdded : s .valueAdded ≡ columnRead 43 (length (s₀ .valueAdded)) o
+  pub production : s .production ≡ columnRead 44 (length (s₀ .production)) o
+  pub rises : s .rises ≡ columnRead 45 (length (s₀ .rises)) o
+
+-- A table file read into slices
+pub record FileRead (file : Cells) (s₀ : Slices) (marks₀ : Cells) (r : Report) (s : Slices) (marks : Cells) : Type 0 where
+  pub answer : r ≡ reportRead (answerOf (readingInto file s₀ marks₀))
+  pub delivered : Delivered (readingInto file s₀ marks₀) s₀ s
+  pub cleared : marks ≡ replicate (length marks₀) 0
+
+-- The page of a table file, written into a buffer of 2,851 bytes, and how many bytes it has
+pub record PagePrinted (file out₀ : Cells) (r : Report) (out : Cells) : Type 0 where
+  pub answer : r ≡ pageReport (length out₀) file
+  pub outputs : out ≡ output r (length out₀) (pageBytes file)

@@ -1,0 +1,104 @@
+-- The text of what is printed is the page. Assumes nothing.
+use mathlib.Core.Path.{_≡_, refl, sym, ap, subst, _∙_}
+use mathlib.Core.List.{List, [], _∷_, _++_}
+use Prim.Native.Nat.{ℕ, _-_, _*_, _≤_, _<_}
+use native.Mathlib.Nat.{mul-le-mul}
+use native.Mathlib.Omega.{arith}
+use lib.Dec.{lit≤, lit<}
+use lib.ListN.{length, take, drop, replicate}
+use lib.Seq.{sets, take-at, take-take}
+use Rattle.model.specs.Table.{Table}
+use Rattle.model.specs.Checks.{Report, accepts, refuses}
+use Rattle.model.specs.File.{Entry, Reading, reading, flowsOf, columnOf, answerOf}
+use Rattle.model.specs.Contracts.{PagePrinted}
+use Rattle.model.specs.Figures.{figuresReport}
+use Rattle.model.specs.Page.{refusalLine, sheet, tableRead, tablePage, readingPage, page, pageLimit, pageReport}
+use Rattle.model.specs.declared.TableRead.{TableRead}
+use Rattle.theory.proofs.Pages.{written, unwritten}
+use Rattle.theory.proofs.Readings.{Answered, reading-answered}
+use Rattle.walk.specs.Steps.{Held}
+use Rattle.figures.specs.Stages.{tableIn, Figures}
+use Rattle.figures.proofs.Stages.{part}
+use Rattle.page.specs.Prints.{pageOf, Small}
+
+-- ---- texts
+-- a text was written from the start of l, which then is m, and j is its length
+abbrev pub Put : List ℕ → List ℕ → List ℕ → ℕ → Type 0
+Put text l m j = (j ≡ length text) × (m ≡ sets l 0 text)
+
+-- the same text by another name
+pub told : {t u : List ℕ} (l : List ℕ) {m : List ℕ} {j : ℕ} → t ≡ u → Put t l m j → Put u l m j
+told l e p = (p .0 ∙ ap length e, p .1 ∙ ap (λ (x : List ℕ). sets l 0 x) e)
+
+pub room : {t u : List ℕ} {k : ℕ} → t ≡ u → length u ≤ k → length t ≤ k
+room {k = k} e h = subst (λ (x : List ℕ). length x ≤ k) (sym e) h
+
+-- ---- a table's page by its figures
+module _ (t : Table) {s : Report} {f y b i : List ℕ} (w : Figures t s f y b i) where
+  pub table-stop : {q p : ℕ} → s ≡ refuses 1 q p → refusalLine q p ≡ tablePage t
+  unfolding tablePage
+  table-stop {q} {p} g =
+      let said : figuresReport t ≡ refuses 1 q p = sym (w .told) ∙ g in
+      rw said refl
+
+  sheet-on : {k : ℕ} → s ≡ accepts (k ∷ []) → sheet (t .sectors) f y b i k ≡ tablePage t
+  unfolding tablePage
+  sheet-on {k} g =
+      let yes = ap (λ (r : Report). r .accepted) g in
+      let said : figuresReport t ≡ accepts (k ∷ []) = sym (w .told) ∙ g in
+      rw (w .demand yes, w .production yes, w .value yes, w .imports yes, said) refl
+
+  -- from the start of longer lists
+  pub table-on : {k : ℕ} (fs ys bs is : List ℕ) → s ≡ accepts (k ∷ [])
+      → length f ≡ t .sectors → length y ≡ t .sectors → length b ≡ t .sectors → length i ≡ t .sectors
+      → sheet (t .sectors) (take (t .sectors) (f ++ fs)) (take (t .sectors) (y ++ ys)) (take (t .sectors) (b ++ bs)) (take (t .sectors) (i ++ is)) k ≡ tablePage t
+  table-on {k} fs ys bs is g lf ly lb li =
+      let n = t .sectors in
+      rw (take-at f fs n lf, take-at y ys n ly, take-at b bs n lb, take-at i is n li) (sheet-on g)
+
+-- the first n of 40 cells
+pub first-part : (n : ℕ) (l : List ℕ) → n ≤ 40 → length l ≡ 40 → length (take (n - 0) l) ≡ n
+first-part n l few long = part n l (omega arith)
+
+pub sheet-part : (n : ℕ) (f y b i : List ℕ) (k : ℕ)
+    → sheet n (take (n - 0) f) (take (n - 0) y) (take (n - 0) b) (take (n - 0) i) k ≡ sheet n (take n f) (take n y) (take n b) (take n i) k
+sheet-part n f y b i k = let e : n - 0 ≡ n = omega arith in rw e refl
+
+-- ---- a file's page by what the reader answers and leaves in its cells
+answer-small : (o : Reading) (most : ℕ) → Answered most o → Small (answerOf o)
+answer-small (Reading.refused q p) most h = tt
+answer-small (Reading.table n es) most h = h .1
+
+pub read-small : (s : List ℕ) {r : TableRead} → r ≡ answerOf (reading s) → Small r
+read-small s e = subst Small (sym e) (answer-small (reading s) 12649 (reading-answered s))
+
+-- the table that lies in the cells is the one that the file names
+table-held : (n : ℕ) (es : List Entry) (cells : List ℕ) → n ≤ 40 → Held (Reading.table n es) cells → tableIn n cells ≡ tableRead n es
+table-held n es cells few h =
+    rw (flows, column 40 (lit≤ tt) (lit< tt), column 41 (lit≤ tt) (lit< tt), column 42 (lit≤ tt) (lit< tt), column 43 (lit≤ tt) (lit< tt), column 44 (lit≤ tt) (lit< tt)) refl
+  where
+    flows : take (n * n) cells ≡ take (n * n) (flowsOf n es)
+    flows = sym (take-take (n * n) 1600 cells (mul-le-mul few few)) ∙ ap (λ (l : List ℕ). take (n * n) l) (h .flows)
+
+    column : (c : ℕ) → 40 ≤ c → c < 46 → take n (drop (c * 40) cells) ≡ take n (columnOf c es)
+    column c low high = sym (take-take n 40 (drop (c * 40) cells) few) ∙ ap (λ (l : List ℕ). take n l) (h .columns c low high)
+
+answer-page : (o : Reading) (most : ℕ) (cells : List ℕ) → Answered most o → Held o cells → pageOf (answerOf o) cells ≡ readingPage o
+answer-page (Reading.refused q p) most cells a h = refl
+answer-page (Reading.table n es) most cells a h = ap tablePage (table-held n es cells (a .1) h)
+
+pub read-page : (s cells : List ℕ) {r : TableRead} → r ≡ answerOf (reading s) → Held (reading s) cells → pageOf r cells ≡ page s
+unfolding page
+read-page s cells e h = ap (λ (r : TableRead). pageOf r cells) e ∙ answer-page (reading s) 12649 cells (reading-answered s) h
+
+-- ---- the call, by the length of its buffer
+pub call-stop : (s l : List ℕ) {z : List ℕ} → (length l ≡ pageLimit → ⊥) → z ≡ replicate (length l) 0 → PagePrinted s l (refuses 1 2 0) z
+call-stop s l h e = record { answer = sym (unwritten (length l) s h); outputs = e }
+
+pub call-on : (s l : List ℕ) {z m : List ℕ} {j : ℕ} → length l ≡ pageLimit → z ≡ replicate (length l) 0 → Put (page s) z m j → PagePrinted s l (accepts (j ∷ [])) m
+call-on s l {z} {m} {j} h e p =
+    let w = written s in
+    record {
+      answer = ap (λ (k : ℕ). accepts (k ∷ [])) (p .0) ∙ sym (w .0) ∙ ap (λ (k : ℕ). pageReport k s) (sym h);
+      outputs = p .1 ∙ ap (λ (x : List ℕ). sets x 0 (page s)) (e ∙ ap (λ (k : ℕ). replicate k 0) h) ∙ sym (w .1);
+    }

@@ -1,0 +1,2 @@
+-- What contracts of the page cite beside the definitions of `model`.
+pub mod Prints

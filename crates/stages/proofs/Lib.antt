@@ -1,2 +1,0 @@
--- The page at the way out of each call.
-pub mod Stages

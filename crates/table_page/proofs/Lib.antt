@@ -1,2 +1,0 @@
--- The page of a table.
-pub mod Tables
