@@ -7,7 +7,7 @@ ghost use Rattle.model.specs.Numbers.{at, cell, oriented, transposed};
 ghost use Rattle.model.specs.Table.{portion, share};
 ghost use Rattle.model.specs.Rounds.{intermediate, weighted};
 ghost use Rattle.model.specs.Checks.{amountLimit, output, report};
-ghost use Rattle.theory.specs.Bounds.{sumLimit};
+ghost use Rattle.theory_rounds.specs.Bounds.{sumLimit};
 
 // Sets every cell to 0.
 pub fn fill_zero(s: &mut [u64])

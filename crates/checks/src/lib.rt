@@ -11,7 +11,7 @@ ghost use Rattle.model.specs.Numbers.{all, at, cell};
 ghost use Rattle.model.specs.Rounds.{weighted};
 ghost use Rattle.model.specs.Checks.{Check, report, verdict, bounded, size, lengths, columnSums, productionTotal, demandLeft};
 ghost use Rattle.model.specs.Calls.{matrixChecks};
-ghost use Rattle.theory.specs.Bounds.{sumLimit};
+ghost use Rattle.theory_rounds.specs.Bounds.{sumLimit};
 ghost use Rattle.theory.specs.Slices.{Each};
 
 // Question 1: is n from 1 to 40?

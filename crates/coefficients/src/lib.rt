@@ -1,11 +1,11 @@
 // From a table to its coefficients and its demand for domestic goods.
-use balances::check_table;
 use cells::output;
 use model::Answer;
-use sheets::fill_imports;
-use sheets::fill_inputs;
-use sheets::fill_shares;
-use sheets::finish;
+use table_checks::check_table;
+use table_sheets::fill_imports;
+use table_sheets::fill_inputs;
+use table_sheets::fill_shares;
+use table_sheets::finish;
 ghost use mathlib.Core.Bool.{true};
 ghost use mathlib.Core.List.{[], _∷_};
 ghost use mathlib.Core.Path.{_≡_};

@@ -14,7 +14,7 @@ ghost use Rattle.model.specs.Rounds.{impliedDemand, intermediate, weighted};
 ghost use Rattle.model.specs.Checks.{report, productionTotal, verdict};
 ghost use Rattle.model.specs.Calls.{impliedReport, matrixChecks};
 ghost use Rattle.model.specs.Contracts.{Implied};
-ghost use Rattle.theory.specs.Bounds.{sumLimit};
+ghost use Rattle.theory_rounds.specs.Bounds.{sumLimit};
 
 // Questions 1, 2, 7 and 8 of a given production.
 fn check_production(n: usize, d: &[u64], y: &[u64], out_len: usize) -> Answer

@@ -14,11 +14,11 @@ use Rattle.model.specs.Contracts.{PagePrinted}
 use Rattle.model.specs.Figures.{figuresReport}
 use Rattle.model.specs.Page.{refusalLine, sheet, tableRead, tablePage, readingPage, page, pageLimit, pageReport}
 use Rattle.model.specs.declared.TableRead.{TableRead}
-use Rattle.theory.proofs.Pages.{written, unwritten}
-use Rattle.theory.proofs.Readings.{Answered, reading-answered}
-use Rattle.walk.specs.Steps.{Held}
-use Rattle.figures.specs.Stages.{tableIn, Figures}
-use Rattle.figures.proofs.Stages.{part}
+use Rattle.theory_pages.proofs.Pages.{written, unwritten}
+use Rattle.theory_files.proofs.Readings.{Answered, reading-answered}
+use Rattle.file_walk.specs.Steps.{Held}
+use Rattle.page_figures.specs.Stages.{tableIn, Figures}
+use Rattle.page_figures.proofs.Stages.{part}
 use Rattle.page.specs.Prints.{pageOf, Small}
 
 -- ---- texts

@@ -5,7 +5,7 @@ use lib.ListN.{take}
 use Rattle.model.specs.Page.{refusalLine, sheet, tablePage}
 use Rattle.model.specs.declared.TableRead.{TableRead}
 use Rattle.model.specs.declared.TableRead.the-variants.{Read, Refused}
-use Rattle.figures.specs.Stages.{tableIn}
+use Rattle.page_figures.specs.Stages.{tableIn}
 use Rattle.page.specs.declared.Print.{Print}
 use Rattle.page.specs.declared.Print.the-variants.{Refusal, Sheet}
 

@@ -1,11 +1,11 @@
 // From the bytes of a table file to the printed page: read, work out, and only then print.
-use figures::table_figures;
-use lines::put_refusal;
-use lines::put_sheet;
+use file_walk::read_flat;
 use model::Outcome;
 use model::PageWritten;
 use model::TableRead;
-use walk::read_flat;
+use page_figures::table_figures;
+use page_lines::put_refusal;
+use page_lines::put_sheet;
 ghost use mathlib.Core.Path.{_≡_};
 ghost use Prim.Native.Nat.{_≤_};
 ghost use lib.ListN.{length, replicate};

@@ -1,25 +1,7 @@
--- Laws of sums, lists and searches; rounds; how far settled amounts are from an exact balance; verdicts; and, over all of these, what the papers
--- promise (Promises).
+-- Laws of sums, lists and searches, of matrices and shares, of lists of checks, and of decimals.
 pub mod Sums
 pub mod Lists
 pub mod Matrices
 pub mod Shares
-pub mod Gauge
-pub mod Rounds
-pub mod Rises
-pub mod Settling
-pub mod Accuracy
 pub mod Verdicts
-pub mod Answers
-pub mod Tables
-pub mod Alike
-pub mod Promises
-pub mod Prepared
-pub mod Encoding
-pub mod Files
-pub mod Lengths
-pub mod Prefixes
-pub mod Readings
-pub mod Balances
 pub mod Decimals
-pub mod Pages

@@ -1,1 +1,1 @@
-// Laws and theorems over the definitions of `model`: they stand in proofs/, and there is no code here.
+// Laws that several families rest on: they stand in proofs/, and there is no code here.

@@ -4,7 +4,7 @@ use Prim.Native.Nat.{ℕ, _+_, _*_, _≤_, _<_, _-_}
 use native.Mathlib.Omega.{arith}
 use Rattle.model.specs.Numbers.{sum, at, cell}
 use Rattle.model.specs.Rounds.{product}
-use Rattle.theory.specs.Bounds.{sumLimit}
+use Rattle.theory_rounds.specs.Bounds.{sumLimit}
 use Rattle.theory.proofs.Sums.{sum-more, sum-room, sum-done, cell-in}
 use Rattle.cells.proofs.weighted_sum.Statement.{statement}
 use Rattle.cells.proofs.weighted_sum.Tie as tie

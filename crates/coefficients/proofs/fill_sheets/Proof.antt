@@ -11,7 +11,7 @@ use Rattle.model.specs.Table.{Table, tableOf, inputCoefficient, valueAddedCoeff
 use Rattle.model.specs.Checks.{Check, verdict, columnSums}
 use Rattle.model.specs.Calls.{tableChecks, inputCoefficients, valueAddedCoefficients, importCoefficients, domesticCoefficients, coefficientsReport}
 use Rattle.theory.proofs.Verdicts.{answered-pass, answered-on, answered-stop}
-use Rattle.theory.proofs.Tables.{Accepted, accepted-table, inputs-small, imports-small, domestic-from, demand-from}
+use Rattle.theory_tables.proofs.Tables.{Accepted, accepted-table, inputs-small, imports-small, domestic-from, demand-from}
 use Rattle.coefficients.proofs.fill_sheets.Statement.{statement}
 use Rattle.coefficients.proofs.fill_sheets.Tie as tie
 

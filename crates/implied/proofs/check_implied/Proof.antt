@@ -7,8 +7,8 @@ use Rattle.model.specs.Numbers.{at}
 use Rattle.model.specs.Checks.{Check, productionTotal, demandLeft}
 use Rattle.model.specs.Calls.{matrixChecks, impliedReport}
 use Rattle.theory.proofs.Verdicts.{answered-pass, answered-on, answered-stop}
-use Rattle.theory.proofs.Answers.{given}
-use Rattle.theory.proofs.Promises.{implied-fits}
+use Rattle.theory_rounds.proofs.Answers.{given}
+use Rattle.theory_rounds.proofs.Promises.{implied-fits}
 use Rattle.implied.proofs.check_implied.Statement.{statement}
 use Rattle.implied.proofs.check_implied.Tie as tie
 

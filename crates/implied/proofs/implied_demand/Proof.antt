@@ -5,8 +5,8 @@ use borrow.Author.Needs.{needs}
 use lib.ListN.{length}
 use Rattle.model.specs.Checks.{Report, accepts, report}
 use Rattle.model.specs.Calls.{impliedReport}
-use Rattle.theory.proofs.Answers.{accepted-implied}
-use Rattle.theory.proofs.Promises.{implied, implied-fits}
+use Rattle.theory_rounds.proofs.Answers.{accepted-implied}
+use Rattle.theory_rounds.proofs.Promises.{implied, implied-fits}
 use Rattle.implied.proofs.implied_demand.Statement.{statement}
 use Rattle.implied.proofs.implied_demand.Tie as tie
 

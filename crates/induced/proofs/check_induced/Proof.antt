@@ -6,7 +6,7 @@ use lib.ListN.{length}
 use Rattle.model.specs.Checks.{Check, report, verdict, size, lengths, inducedAmounts, productionTotal}
 use Rattle.model.specs.Calls.{inducedReport}
 use Rattle.theory.proofs.Verdicts.{answered-pass, answered-on, answered-stop}
-use Rattle.theory.proofs.Answers.{InducedSizes, induced-sizes}
+use Rattle.theory_rounds.proofs.Answers.{InducedSizes, induced-sizes}
 use Rattle.induced.proofs.check_induced.Statement.{statement}
 use Rattle.induced.proofs.check_induced.Tie as tie
 

@@ -10,7 +10,7 @@ use Rattle.model.specs.Rounds.{weighted, intermediate, inducedImports}
 use Rattle.model.specs.Checks.{productionLimit}
 use Rattle.theory.proofs.Sums.{cell-in}
 use Rattle.theory.proofs.Lists.{Agree, agree-none, agree-set, tabulated}
-use Rattle.theory.proofs.Rounds.{weighted-shares, intermediate-within}
+use Rattle.theory_rounds.proofs.Rounds.{weighted-shares, intermediate-within}
 use Rattle.induced.proofs.fill_imports.Statement.{statement}
 use Rattle.induced.proofs.fill_imports.Tie as tie
 

@@ -5,7 +5,7 @@ use borrow.Author.Needs.{needs}
 use lib.ListN.{length}
 use Rattle.model.specs.Checks.{Report, accepts, report}
 use Rattle.model.specs.Calls.{inducedReport}
-use Rattle.theory.proofs.Answers.{InducedGiven, accepted-induced}
+use Rattle.theory_rounds.proofs.Answers.{InducedGiven, accepted-induced}
 use Rattle.induced.proofs.induced.Statement.{statement}
 use Rattle.induced.proofs.induced.Tie as tie
 

@@ -8,7 +8,7 @@ use lib.Seq.{length-take-le}
 use Rattle.model.specs.Numbers.{cell}
 use Rattle.model.specs.Checks.{Report, reportPage}
 use Rattle.model.specs.Page.{page}
-use Rattle.theory.proofs.Pages.{page-fits, written}
+use Rattle.theory_pages.proofs.Pages.{page-fits, written}
 use Rattle.program.proofs.print_page.Statement.{statement}
 use Rattle.program.proofs.print_page.Tie as tie
 

@@ -1,0 +1,154 @@
+-- The number alone tells whether a call was accepted: acceptance has number 0, and a refusal another. So what a call promises of its answer, it
+-- promises of the numbers that tell it. Assumes nothing.
+use mathlib.Core.Bool.{Bool, true, false, _&&_, cond}
+use mathlib.Core.List.{List, [], _∷_, _++_}
+use mathlib.Core.Path.{_≡_, refl, sym, subst⁻¹}
+use Prim.Native.Nat.{ℕ, zero, suc, _+_, _≤_}
+use native.Mathlib.Omega.{arith}
+use borrow.Author.Tests.{ne-eqb, leb-true}
+use lib.Dec.{eqb, leb, ltb}
+use lib.ListN.{length}
+use Rattle.model.specs.Numbers.{at, cell, first, transposed}
+use Rattle.model.specs.Table.{Table}
+use Rattle.model.specs.Rounds.{settling, inverseRounds}
+use Rattle.model.specs.Checks.{Report, reportRead, reportTold, Check, amountLimit, balanceChecks, counted, refuses, verdict, columnSums, columnsSettle, demandLeft, demandLimit, inducedAmounts, lengths, productionTotal, riseLimit, single, size}
+use Rattle.model.specs.Calls.{coefficientsReport, domesticCoefficients, impliedReport, inducedReport, inverseReport, matrixChecks, priceReport, productionReport, settlingChecks, tableChecks}
+use Rattle.model.specs.Contracts.{Derived, Produced, Priced, Implied, Induced, Inverted, Slices, FileRead, PagePrinted}
+use Rattle.model.specs.File.{Entry, Reading, answerOf, called, entryAt, fits, insideAt, kindAt, named, nextAt, reading, walk, wholeAt}
+use Rattle.model.specs.Page.{page, pageLimit, pageReport}
+use Rattle.theory.proofs.Lists.{and-true}
+use Rattle.c_answers.specs.Told.{Told}
+
+-- a report that is accepted exactly where its number is 0
+abbrev pub Numbered : Report → Type 0
+Numbered r = r .accepted ≡ eqb (r .number) 0
+
+-- no check of a list has number 0
+abbrev nonzero : List Check → Bool
+nonzero [] = true
+nonzero (q ∷ qs) = leb 1 (q .number) && nonzero qs
+
+numbered : (qs : List Check) (ks : List ℕ) → nonzero qs ≡ true → Numbered (verdict qs ks)
+numbered [] ks e = refl
+numbered (q ∷ qs) ks e =
+    let p = and-true (leb 1 (q .number)) (nonzero qs) e in
+    split (ltb place (q .places)) (leb-true 1 (q .number) (p .0)) (numbered qs ks (p .1))
+  where
+    place : ℕ
+    place = first (q .places) (q .passes)
+
+    split : (t : Bool) → 1 ≤ q .number → Numbered (verdict qs ks) → Numbered (cond t (refuses (length ks) (q .number) (q .offset + place)) (verdict qs ks))
+    split true h later = sym (ne-eqb (q .number) 0 (λ e. omega arith))
+    split false h later = later
+
+-- slices that are counted on, before checks that have other numbers
+counted-nonzero : (place limit : ℕ) (ss : List (List ℕ)) (qs rs : List Check) → nonzero (qs ++ rs) ≡ true → nonzero (counted place limit ss ++ qs ++ rs) ≡ true
+counted-nonzero place limit [] qs rs e = e
+counted-nonzero place limit (s ∷ ss) qs rs e = counted-nonzero (place + length s) limit ss qs rs e
+
+module _ (t : Table) (matrices lent : List ℕ) where
+  pub coefficients-number : Numbered (coefficientsReport t matrices lent)
+  unfolding coefficientsReport
+  coefficients-number =
+      let seventh = columnSums (t .sectors) (at (t .sectors) (domesticCoefficients t)) ∷ [] in
+      numbered (tableChecks t matrices lent ++ seventh) [] (counted-nonzero 0 amountLimit (t .flows ∷ t .columns) (balanceChecks t) seventh refl)
+
+module _ (n : ℕ) (d : List ℕ) where
+  pub production-number : (f : List ℕ) (budget : ℕ) (lent : List ℕ) → Numbered (productionReport n d f budget lent)
+  unfolding productionReport
+  production-number f budget lent = numbered (settlingChecks n d (at n d) demandLimit f budget lent) (settling n (at n d) f budget ∷ []) refl
+
+  pub price-number : (w : List ℕ) (budget : ℕ) (lent : List ℕ) → Numbered (priceReport n d w budget lent)
+  unfolding priceReport
+  price-number w budget lent =
+      numbered (settlingChecks n d (transposed (at n d)) riseLimit w budget lent) (settling n (transposed (at n d)) w budget ∷ []) refl
+
+  pub implied-number : (y lent : List ℕ) → Numbered (impliedReport n d y lent)
+  unfolding impliedReport
+  implied-number y lent = numbered (matrixChecks n d [] (length y ∷ lent) ++ (productionTotal n y ∷ demandLeft n (at n d) y ∷ [])) [] refl
+
+  pub inverse-number : (budget : ℕ) (matrices lent : List ℕ) → Numbered (inverseReport n d budget matrices lent)
+  unfolding inverseReport
+  inverse-number budget matrices lent =
+      numbered (matrixChecks n d matrices lent ++ (columnsSettle n d budget ∷ [])) (inverseRounds n d budget ∷ []) refl
+
+pub induced-number : (n : ℕ) (a m v F y lent : List ℕ) → Numbered (inducedReport n a m v F y lent)
+unfolding inducedReport
+induced-number n a m v F y lent =
+    let columns = length m ∷ length v ∷ length F ∷ length y ∷ lent in
+    numbered (size n ∷ lengths n (length a ∷ []) columns ∷ inducedAmounts n a m v F ++ (productionTotal n y ∷ [])) [] refl
+
+-- ---- the reader: a file is accepted exactly where its number is 0
+pub record NumberedRead (o : Reading) : Type 0 where
+  pub numbered : Numbered (reportRead (answerOf o))
+
+refusal : (q p : ℕ) → 1 ≤ q → NumberedRead (Reading.refused q p)
+refusal q p h = record { numbered = sym (ne-eqb q 0 (λ e. omega arith)) }
+
+accepted : (n : ℕ) (es : List Entry) → NumberedRead (Reading.table n es)
+accepted n es = record { numbered = refl }
+
+either : (b : Bool) {o p : Reading} → NumberedRead o → NumberedRead p → NumberedRead (cond b o p)
+either true h k = h
+either false h k = k
+
+walk-number : (fuel : ℕ) (s : List ℕ) (n : ℕ) (es : List Entry) (at : ℕ) → NumberedRead (walk fuel s n es at)
+unfolding walk
+walk-number zero s n es at = refusal 15 (length s) (omega arith)
+walk-number (suc fuel) s n es at =
+    let fresh = either (named es (entryAt s at)) (refusal 14 at (omega arith)) (walk-number fuel s n (entryAt s at ∷ es) (nextAt s at)) in
+    let inside = either (insideAt s at n) fresh (refusal 13 at (omega arith)) in
+    let end = either (eqb (at + 1) (length s)) (accepted n es) (refusal 15 (at + 1) (omega arith)) in
+    let body = either (eqb (kindAt s at) 8) end inside in
+    let first = either (eqb (kindAt s at) 1) (refusal 12 at (omega arith)) body in
+    let whole = either (wholeAt s at) first (refusal 11 at (omega arith)) in
+    either (leb (length s) at) (refusal 15 (length s) (omega arith)) whole
+
+pub read-number : (x : ℕ) (columns : List ℕ) (marks : ℕ) (s : List ℕ) → NumberedRead (called x columns marks s)
+unfolding called reading
+read-number x columns marks s =
+    let n = cell s 1 in
+    let sized = either (eqb (kindAt s 0) 1 && (leb 1 n && leb n 40)) (walk-number (length s) s n [] 2) (refusal 12 0 (omega arith)) in
+    let whole = either (wholeAt s 0) sized (refusal 11 0 (omega arith)) in
+    either (fits x columns marks) (either (eqb (length s) 0) (refusal 15 0 (omega arith)) whole) (refusal 2 0 (omega arith))
+
+-- ---- the page call
+pub page-number : (len : ℕ) (s : List ℕ) → Numbered (pageReport len s)
+unfolding pageReport
+page-number len s = numbered (single 2 (eqb pageLimit len) ∷ []) (length (page s) ∷ []) refl
+
+-- ---- what a call promises of its answer r, it promises of the numbers that tell it
+module _ {number place : ℕ} {counts : List ℕ} where
+  as-told : (r : Report) {s : Report} → Told r number place counts → r ≡ s → Numbered s → reportTold number place counts ≡ r
+  as-told r t e q = rw (t .0, t .1, t .2, sym (subst⁻¹ Numbered e q)) refl
+
+  module _ {r : Report} (told : Told r number place counts) where
+    pub derived-told : {t : Table} {a₀ v₀ m₀ d₀ f₀ a v m d f : List ℕ} → Derived t a₀ v₀ m₀ d₀ f₀ r a v m d f
+        → Derived t a₀ v₀ m₀ d₀ f₀ (reportTold number place counts) a v m d f
+    derived-told {t} made = rw (as-told r told (made .answer) (coefficients-number t _ _)) made
+
+    pub produced-told : {n budget : ℕ} {d f o w out work : List ℕ} → Produced n d f budget o w r out work
+        → Produced n d f budget o w (reportTold number place counts) out work
+    produced-told {n} {budget} {d} {f} made = rw (as-told r told (made .answer) (production-number n d f budget _)) made
+
+    pub priced-told : {n budget : ℕ} {d w o u out work : List ℕ} → Priced n d w budget o u r out work
+        → Priced n d w budget o u (reportTold number place counts) out work
+    priced-told {n} {budget} {d} {w} made = rw (as-told r told (made .answer) (price-number n d w budget _)) made
+
+    pub implied-told : {n : ℕ} {d y o out : List ℕ} → Implied n d y o r out → Implied n d y o (reportTold number place counts) out
+    implied-told {n} {d} {y} made = rw (as-told r told (made .answer) (implied-number n d y _)) made
+
+    pub induced-told : {n : ℕ} {a m v F y b c value imports : List ℕ} → Induced n a m v F y b c r value imports
+        → Induced n a m v F y b c (reportTold number place counts) value imports
+    induced-told {n} {a} {m} {v} {F} {y} made = rw (as-told r told (made .answer) (induced-number n a m v F y _)) made
+
+    pub inverted-told : {n budget : ℕ} {d b c e z power sensitivity : List ℕ} → Inverted n d budget b c e r z power sensitivity
+        → Inverted n d budget b c e (reportTold number place counts) z power sensitivity
+    inverted-told {n} {budget} {d} made = rw (as-told r told (made .answer) (inverse-number n d budget _ _)) made
+
+    pub read-told : {file marks₀ marks : List ℕ} {s₀ s : Slices} → FileRead file s₀ marks₀ r s marks
+        → FileRead file s₀ marks₀ (reportTold number place counts) s marks
+    read-told {file} made = rw (as-told r told (made .answer) (read-number _ _ _ file .numbered)) made
+
+    pub page-told : {file out₀ out : List ℕ} → PagePrinted file out₀ r out → PagePrinted file out₀ (reportTold number place counts) out
+    page-told {file} made = rw (as-told r told (made .answer) (page-number _ file)) made

@@ -1,0 +1,130 @@
+// The reader of a table file. The walk works over cells of its own, one slice of 1,840; they are delivered at the end.
+use cells::copy_cells;
+use cells::fill_zero;
+use checks::all_equal;
+use file_walk::read_flat;
+use model::TableRead;
+ghost use mathlib.Core.List.{List, [], _∷_};
+ghost use mathlib.Core.Path.{_≡_};
+ghost use Prim.Native.Nat.{ℕ, _+_, _≤_};
+ghost use lib.ListN.{length, replicate};
+ghost use Rattle.model.specs.Checks.{reportRead};
+ghost use Rattle.model.specs.Contracts.{Delivered, FileRead, readingInto, slicesOf};
+ghost use Rattle.model.specs.File.{Reading, fits, called, answerOf};
+ghost use Rattle.file_walk.specs.Steps.{Held};
+ghost use Rattle.file_reader.specs.Reader.{Put};
+
+// A part of the cells, into a slice of its length; a slice of another length is set to 0.
+fn put_part(cells: &[u64], from: usize, count: usize, out: &mut [u64])
+    requires { ⌜ from + count ≤ length (now cells) ⌝ }
+    ensures { λ _. ⌜ Put (now (cells .entry)) from count (length (now (out .entry))) (now (out .exit)) ⌝ }
+{
+    if out.len() == count {
+        copy_cells(&cells[from..from + count], out);
+        return;
+    }
+    fill_zero(out);
+}
+
+// The cells, part by part, into the lent slices.
+fn deliver(
+    cells: &[u64],
+    x: &mut [u64],
+    final_demand: &mut [u64],
+    exports: &mut [u64],
+    imports: &mut [u64],
+    value_added: &mut [u64],
+    production: &mut [u64],
+    rises: &mut [u64],
+)
+    requires { ⌜ length (now cells) ≡ 1840 ⌝ }
+    ensures { λ _. ⌜ ((marks s : List ℕ) (o : Reading) → o ≡ readingInto s
+        (slicesOf (now (x .entry)) (now («final_demand» .entry)) (now (exports .entry)) (now (imports .entry)) (now («value_added» .entry)) (now (production .entry)) (now (rises .entry))) marks
+        → Held o (now (cells .entry)) → Delivered o
+        (slicesOf (now (x .entry)) (now («final_demand» .entry)) (now (exports .entry)) (now (imports .entry)) (now («value_added» .entry)) (now (production .entry)) (now (rises .entry)))
+        (slicesOf (now (x .exit)) (now («final_demand» .exit)) (now (exports .exit)) (now (imports .exit)) (now («value_added» .exit)) (now (production .exit)) (now (rises .exit)))) ⌝ }
+{
+    put_part(cells, 0, 1600, x);
+    put_part(cells, 1600, 40, final_demand);
+    put_part(cells, 1640, 40, exports);
+    put_part(cells, 1680, 40, imports);
+    put_part(cells, 1720, 40, value_added);
+    put_part(cells, 1760, 40, production);
+    put_part(cells, 1800, 40, rises);
+}
+
+// Question 2, by the lengths of the lent slices.
+fn is_fit(x: usize, columns: &[usize], marks: usize) -> bool
+    ensures { λ r. ⌜ r ≡ fits x (now (columns .entry)) marks ⌝ }
+{
+    if 1600 != x {
+        return false;
+    }
+    if !all_equal(40, columns) {
+        return false;
+    }
+    46 == marks
+}
+
+// Question 2, then the file into cells of 0. After a refusal they are 0; the marks are 0 in any case.
+fn read_called(
+    file: &[u8],
+    x: usize,
+    columns: &[usize],
+    cells: &mut [u64],
+    marks: &mut [u64],
+) -> TableRead
+    requires { ⌜ now cells ≡ replicate 1840 0 ⌝ }
+    ensures { λ r. ⌜ (r ≡ answerOf (called x (now (columns .entry)) (length (now (marks .entry))) (now (file .entry))))
+        × Held (called x (now (columns .entry)) (length (now (marks .entry))) (now (file .entry))) (now (cells .exit))
+        × (now (marks .exit) ≡ replicate (length (now (marks .entry))) 0) ⌝ }
+{
+    if !is_fit(x, columns, marks.len()) {
+        fill_zero(marks);
+        return TableRead::Refused {
+            number: 2,
+            place: 0,
+        };
+    }
+    read_flat(file, cells, marks)
+}
+
+// Reads a table file of any bytes into slices of any lengths. After a refusal every slice is 0; the marks are 0 after every call. What it promises is
+// `FileRead`.
+pub fn read_table(
+    file: &[u8],
+    x: &mut [u64],
+    final_demand: &mut [u64],
+    exports: &mut [u64],
+    imports: &mut [u64],
+    value_added: &mut [u64],
+    production: &mut [u64],
+    rises: &mut [u64],
+    marks: &mut [u64],
+) -> TableRead
+    ensures { λ r. ⌜ FileRead (now (file .entry))
+        (slicesOf (now (x .entry)) (now («final_demand» .entry)) (now (exports .entry)) (now (imports .entry)) (now («value_added» .entry)) (now (production .entry)) (now (rises .entry))) (now (marks .entry)) (reportRead r)
+        (slicesOf (now (x .exit)) (now («final_demand» .exit)) (now (exports .exit)) (now (imports .exit)) (now («value_added» .exit)) (now (production .exit)) (now (rises .exit))) (now (marks .exit)) ⌝ }
+{
+    let columns = [
+        final_demand.len(),
+        exports.len(),
+        imports.len(),
+        value_added.len(),
+        production.len(),
+        rises.len(),
+    ];
+    let mut cells = [0u64; 1840];
+    let answer = read_called(file, x.len(), &columns, &mut cells, marks);
+    deliver(
+        &cells,
+        x,
+        final_demand,
+        exports,
+        imports,
+        value_added,
+        production,
+        rises,
+    );
+    answer
+}

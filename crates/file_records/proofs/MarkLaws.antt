@@ -1,0 +1,101 @@
+-- The marks tell which cells were named: a mark sets its own bit and no other. Assumes nothing.
+use mathlib.Core.Bool.{Bool, false, _&&_, _||_}
+use mathlib.Core.List.{List}
+use mathlib.Core.Path.{_≡_, refl, sym, ap, ap₂, _∙_, subst}
+use Prim.Native.Nat.{ℕ, zero, suc, _+_, _-_, _*_, _/_, _%_, _^_, _≤_, _<_, max}
+use native.Mathlib.Nat.{zero-div, mod-lt, div-eq-of-lt, max-zero, zero-lt-suc, le-of-suc-le-suc, not-suc-le-zero, one-mul}
+use native.Mathlib.Decide.{ℕ-discrete, decLt}
+use native.Mathlib.Omega.{arith}
+use borrow.Author.Tests.{eq-eqb, ne-eqb}
+use lib.Bits.{bitOr, or-shr, or-mod, shifted-even}
+use lib.Dec.{eqb, lit<}
+use lib.ListN.{length, set, replicate, getD-replicate, length-replicate, List·getD-eq-default}
+use lib.Pow.{pow-lt, pow-add, shl-shr, shl-exact}
+use lib.Seq.{getD-set-same, getD-set-other}
+use Rattle.model.specs.Numbers.{cell}
+use Rattle.file_records.specs.Marks.{bit, marked}
+
+-- of two bits, `or` is the larger
+or-bits : (r s : ℕ) → r < 2 → s < 2 → bitOr r s ≡ max r s
+or-bits zero zero a b = refl
+or-bits zero (suc zero) a b = refl
+or-bits (suc zero) zero a b = refl
+or-bits (suc zero) (suc zero) a b = refl
+or-bits zero (suc (suc s)) a b = absurd (not-suc-le-zero (le-of-suc-le-suc (le-of-suc-le-suc b)))
+or-bits (suc zero) (suc (suc s)) a b = absurd (not-suc-le-zero (le-of-suc-le-suc (le-of-suc-le-suc b)))
+or-bits (suc (suc r)) s a b = absurd (not-suc-le-zero (le-of-suc-le-suc (le-of-suc-le-suc a)))
+
+bit-lt : (w k : ℕ) → bit w k < 2
+bit-lt w k = mod-lt (w / 2 ^ k) (zero-lt-suc 1)
+
+bit-or : (a b k : ℕ) → bit (bitOr a b) k ≡ max (bit a k) (bit b k)
+bit-or a b k = ap (λ (x : ℕ). x % 2) (or-shr a b k) ∙ or-mod (a / 2 ^ k) (b / 2 ^ k) 1 ∙ or-bits (bit a k) (bit b k) (bit-lt a k) (bit-lt b k)
+
+-- the bits of 2 ^ p
+bit-same : (p : ℕ) → bit (1 * 2 ^ p) p ≡ 1
+bit-same p = ap (λ (x : ℕ). x % 2) (shl-shr 1 p)
+
+bit-above : (p k : ℕ) → p < k → bit (1 * 2 ^ p) k ≡ 0
+bit-above p k h = ap (λ (x : ℕ). x % 2) (div-eq-of-lt (subst (λ (x : ℕ). x < 2 ^ k) (sym (one-mul (2 ^ p))) (pow-lt h)))
+
+bit-below : (p k : ℕ) → k < p → bit (1 * 2 ^ p) k ≡ 0
+bit-below p k h =
+    let d = p - suc k in
+    let e : p ≡ suc d + k = omega arith in
+    ap (λ (x : ℕ). bit (1 * 2 ^ x) k) e
+    ∙ ap (λ (x : ℕ). bit x k) (one-mul (2 ^ (suc d + k)) ∙ pow-add 2 (suc d) k)
+    ∙ ap (λ (x : ℕ). x % 2) (shl-shr (2 ^ suc d) k)
+    ∙ ap (λ (x : ℕ). x % 2) (sym (one-mul (2 ^ suc d))) ∙ shifted-even 1 d
+
+bit-other : (p k : ℕ) → (p ≡ k → ⊥) → bit (1 * 2 ^ p) k ≡ 0
+bit-other p k h = go (decLt p k) (decLt k p)
+  where
+    go : Dec (p < k) → Dec (k < p) → bit (1 * 2 ^ p) k ≡ 0
+    go (yes a) b = bit-above p k a
+    go (no a) (yes b) = bit-below p k b
+    go (no a) (no b) = absurd (h (omega arith))
+
+-- marks with the bit of a cell set
+module _ (marks : List ℕ) (l p : ℕ) (hl : l < length marks) (hp : p < 64) where
+  abbrev word : ℕ
+  word = cell marks l
+
+  abbrev pub new : ℕ
+  new = bitOr word (1 * 2 ^ p % 2 ^ 64)
+
+  new-bit : (k : ℕ) → bit new k ≡ max (bit word k) (bit (1 * 2 ^ p) k)
+  new-bit k =
+      let exact : 1 * 2 ^ p % 2 ^ 64 ≡ 1 * 2 ^ p = shl-exact 1 p 64 (lit< tt) (omega arith) in
+      bit-or word (1 * 2 ^ p % 2 ^ 64) k ∙ ap (λ (x : ℕ). max (bit word k) (bit x k)) exact
+
+  in-word : (k : ℕ) → Dec (p ≡ k) → eqb (bit new k) 1 ≡ (eqb p k || eqb (bit word k) 1)
+  in-word k (yes e) =
+      eq-eqb _ _ (new-bit k ∙ ap (λ (x : ℕ). max (bit word k) (bit (1 * 2 ^ p) x)) (sym e) ∙ ap (max (bit word k)) (bit-same p)
+      ∙ (let b = bit-lt word k in omega arith))
+      ∙ ap (λ (b : Bool). b || eqb (bit word k) 1) (sym (eq-eqb p k e))
+  in-word k (no h) =
+      ap (λ (x : ℕ). eqb x 1) (new-bit k ∙ ap (max (bit word k)) (bit-other p k h) ∙ max-zero (bit word k))
+      ∙ ap (λ (b : Bool). b || eqb (bit word k) 1) (sym (ne-eqb p k h))
+
+  in-line : (i k : ℕ) → Dec (l ≡ i) → marked (set marks l new) i k ≡ (eqb l i && eqb p k || marked marks i k)
+  unfolding marked
+  in-line i k (yes e) =
+      ap (λ (j : ℕ). eqb (bit (cell (set marks l new) j) k) 1) (sym e)
+      ∙ ap (λ (w : ℕ). eqb (bit w k) 1) (getD-set-same marks l new 0 hl)
+      ∙ in-word k (ℕ-discrete p k)
+      ∙ ap₂ (λ (b : Bool) (j : ℕ). b && eqb p k || eqb (bit (cell marks j) k) 1) (sym (eq-eqb l i e)) e
+  in-line i k (no h) =
+      ap (λ (w : ℕ). eqb (bit w k) 1) (getD-set-other marks l i new 0 (λ e. h (sym e)))
+      ∙ ap (λ (b : Bool). b && eqb p k || eqb (bit (cell marks i) k) 1) (sym (ne-eqb l i h))
+
+  pub marked-more : (i k : ℕ) → marked (set marks l new) i k ≡ (eqb l i && eqb p k || marked marks i k)
+  marked-more i k = in-line i k (ℕ-discrete l i)
+
+-- words of 0 mark nothing
+pub marked-none : (len i k : ℕ) → marked (replicate len 0) i k ≡ false
+unfolding marked
+marked-none len i k = ap (λ (w : ℕ). eqb (bit w k) 1) (none (decLt i len)) ∙ ap (λ (b : ℕ). eqb (b % 2) 1) (zero-div (2 ^ k))
+  where
+    none : Dec (i < len) → _≡_ {A = ℕ} (cell (replicate len 0) i) 0
+    none (yes h) = getD-replicate len i 0 0 h
+    none (no h) = List·getD-eq-default (replicate len 0) 0 (subst (λ (n : ℕ). n ≤ i) (sym (length-replicate len 0)) (omega arith))

@@ -1,0 +1,12 @@
+-- `file_records::is_marked` meets its contract. Assumes nothing.
+use borrow.Author.Needs.{needs}
+use Rattle.file_records.specs.Marks.{marked}
+use Rattle.file_records.proofs.is_marked.Statement.{statement}
+use Rattle.file_records.proofs.is_marked.Tie as tie
+
+returns : tie.Need-returns
+unfolding marked
+returns c = search needs
+
+pub is-marked-spec : {M : Type 1} → statement M
+is-marked-spec = tie.close (tie.spec (λ c. search needs) (λ c. search needs) (λ c. search needs) returns)

@@ -1,0 +1,147 @@
+// The records of a table file: what stands at an offset of a lent file, and the marks of the cells that it names.
+ghost use mathlib.Core.Bool.{_&&_, _||_};
+ghost use mathlib.Core.Path.{_≡_};
+ghost use Prim.Native.Nat.{ℕ, _+_, _^_, _<_, _≤_};
+ghost use lib.Dec.{eqb, leb};
+ghost use lib.ListN.{length};
+ghost use Rattle.model.specs.Numbers.{cell};
+ghost use Rattle.model.specs.File.{recordLengths, columnLines, wholeAt, insideAt, amountFrom, entryAt};
+ghost use Rattle.file_records.specs.Bodies.{Body, Sectors};
+ghost use Rattle.file_records.specs.Marks.{marked};
+
+// Bytes of a record by its kind, the kind byte counted; 0 where there is no such kind. One word with a digit of base 16 for each kind, from
+// the right: an array would be made anew at each record.
+const LENGTHS: usize = 0x6_1_6_6_6_6_6_7_2_0;
+
+// The line of a column by its kind, in two digits of base 8 for each kind.
+const LINES: usize = 0o55_00_54_53_52_51_50_00_00_00;
+
+// A byte at the wider types.
+pub fn wide(b: u8) -> usize
+    ensures { λ r. ⌜ (r ≡ b) × (r < 256) ⌝ }
+{
+    b as usize
+}
+
+fn digit(b: u8) -> u64
+    ensures { λ r. ⌜ (r ≡ b) × (r < 256) ⌝ }
+{
+    b as u64
+}
+
+pub fn record_length(kind: u8) -> usize
+    ensures { λ r. ⌜ r ≡ cell recordLengths kind ⌝ }
+{
+    let k = wide(kind);
+    if k < 10 {
+        return (LENGTHS >> (4 * k)) % 16;
+    }
+    0
+}
+
+fn column_line(kind: u8) -> usize
+    ensures { λ r. ⌜ r ≡ cell columnLines kind ⌝ }
+{
+    let k = wide(kind);
+    if k < 10 {
+        return (LINES >> (6 * k)) % 64;
+    }
+    0
+}
+
+// Question 11: is the kind 1 to 9, and the body whole?
+pub fn is_whole(s: &[u8], at: usize) -> bool
+    requires { ⌜ at < length (now s) ⌝ }
+    ensures { λ r. ⌜ r ≡ wholeAt (now (s .entry)) at ⌝ }
+{
+    let size = record_length(s[at]);
+    if size < 1 {
+        return false;
+    }
+    size <= s.len() - at
+}
+
+// Is a sector byte from 1 to n?
+fn is_sector(b: u8, n: usize) -> bool
+    ensures { λ r. ⌜ r ≡ leb 1 b && leb b n ⌝ }
+{
+    let sector = wide(b);
+    if sector < 1 {
+        return false;
+    }
+    sector <= n
+}
+
+// Question 13: is every sector byte from 1 to n?
+pub fn is_inside(s: &[u8], at: usize, n: usize) -> bool
+    requires { ⌜ Body (now s) at ⌝ }
+    ensures { λ r. ⌜ r ≡ insideAt (now (s .entry)) at n ⌝ }
+{
+    if !is_sector(s[at + 1], n) {
+        return false;
+    }
+    if s[at] != 2 {
+        return true;
+    }
+    is_sector(s[at + 2], n)
+}
+
+// Four bytes, highest first.
+fn amount_from(s: &[u8], k: usize) -> u64
+    requires { ⌜ k + 4 ≤ length (now s) ⌝ }
+    ensures { λ r. ⌜ (r ≡ amountFrom (now (s .entry)) k) × (r < 2 ^ 32) ⌝ }
+{
+    let a = digit(s[k]);
+    let b = digit(s[k + 1]);
+    let c = digit(s[k + 2]);
+    let d = digit(s[k + 3]);
+    ((a * 256 + b) * 256 + c) * 256 + d
+}
+
+// The cell that a record names: its line, its position and its amount.
+pub fn line_at(s: &[u8], at: usize) -> usize
+    requires { ⌜ Body (now s) at × Sectors (now s) at ⌝ }
+    ensures { λ r. ⌜ r ≡ entryAt (now (s .entry)) at .line ⌝ }
+{
+    if s[at] == 2 {
+        return wide(s[at + 1]) - 1;
+    }
+    column_line(s[at])
+}
+
+pub fn position_at(s: &[u8], at: usize) -> usize
+    requires { ⌜ Body (now s) at × Sectors (now s) at ⌝ }
+    ensures { λ r. ⌜ r ≡ entryAt (now (s .entry)) at .position ⌝ }
+{
+    if s[at] == 2 {
+        return wide(s[at + 2]) - 1;
+    }
+    wide(s[at + 1]) - 1
+}
+
+pub fn amount_at(s: &[u8], at: usize) -> u64
+    requires { ⌜ Body (now s) at ⌝ }
+    ensures { λ r. ⌜ (r ≡ entryAt (now (s .entry)) at .amount) × (r < 2 ^ 32) ⌝ }
+{
+    if s[at] == 2 {
+        return amount_from(s, at + 3);
+    }
+    amount_from(s, at + 2)
+}
+
+// Was the cell named before?
+pub fn is_marked(marks: &[u64], line: usize, position: usize) -> bool
+    requires { ⌜ (line < length (now marks)) × (position < 64) ⌝ }
+    ensures { λ r. ⌜ r ≡ marked (now (marks .entry)) line position ⌝ }
+{
+    (marks[line] >> position) % 2 == 1
+}
+
+// Marks a cell, and no other.
+pub fn mark(marks: &mut [u64], line: usize, position: usize)
+    requires { ⌜ (line < length (now marks)) × (position < 64) ⌝ }
+    ensures { λ _. ⌜ ((i k : ℕ) → marked (now (marks .exit)) i k ≡ (eqb line i && eqb position k || marked (now (marks .entry)) i k)) ⌝ }
+{
+    let word = marks[line];
+    marks[line] = word | (1u64 << position);
+}

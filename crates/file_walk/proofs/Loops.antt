@@ -1,0 +1,121 @@
+-- What is kept from record to record, the loop of the walk, and how it ends. Assumes nothing.
+use mathlib.Core.Bool.{Bool, _&&_, _||_}
+use mathlib.Core.List.{List, [], _∷_}
+use mathlib.Core.Path.{_≡_, refl, sym, ap, _∙_, subst}
+use Prim.Native.Nat.{ℕ, suc, pred, _+_, _≤_}
+use native.Mathlib.Numerals.{add-one}
+use native.Mathlib.Omega.{arith}
+use lib.Dec.{eqb, lit≤}
+use lib.ListN.{length, replicate, length-replicate}
+use Rattle.model.specs.File.{Entry, Reading, walk, answerOf}
+use Rattle.model.specs.declared.TableRead.the-variants.{Read, Refused}
+use Rattle.file_records.specs.Marks.{marked}
+use Rattle.file_records.proofs.MarkLaws.{marked-none}
+use Rattle.file_walk.specs.declared.Step.the-variants.{Stop, End, Cell}
+use Rattle.file_walk.specs.Steps.{Held, Agrees, Kept, Names, Asked, Accepts}
+use Rattle.file_walk.proofs.WalkLaws.{one-more}
+use Rattle.file_walk.proofs.CellLaws.{held-none, held-refused}
+
+-- a cell by its line, its position and its amount
+pub as-entry : (e : Entry) (l p a : ℕ) → l ≡ e .line → p ≡ e .position → a ≡ e .amount → record { line = l; position = p; amount = a } ≡ e
+as-entry e l p a x y z =
+    ap (λ (k : ℕ). record { line = k; position = p; amount = a }) x
+    ∙ ap (λ (k : ℕ). record { line = e .line; position = k; amount = a }) y
+    ∙ ap (λ (k : ℕ). record { line = e .line; position = e .position; amount = k }) z
+
+-- a cell that is marked and stored
+pub keeps :
+    (n : ℕ) (es : List Entry) (cells marks cells' marks' : List ℕ) (e : Entry)
+    → ((i k : ℕ) → marked marks' i k ≡ (eqb (e .line) i && eqb (e .position) k || marked marks i k))
+    → (Held (Reading.table n es) cells → Held (Reading.table n (e ∷ es)) cells') → length marks' ≡ 46 → Kept n es cells marks → Kept n (e ∷ es) cells' marks'
+keeps n es cells marks cells' marks' e m h w k = record {
+  held = h (k .held);
+  agrees = record {
+    same = λ d. m (d .line) (d .position) ∙ ap (λ (b : Bool). eqb (e .line) (d .line) && eqb (e .position) (d .position) || b) (k .agrees .same d);
+    words = w;
+  };
+}
+
+-- the step at a record whose cell is e, by the cell's three numbers
+pub takes : (s : List ℕ) (n at : ℕ) (marks : List ℕ) (e : Entry) (l p a next : ℕ) → l ≡ e .line → p ≡ e .position → a ≡ e .amount
+    → ((fuel : ℕ) (es : List Entry) → Agrees es marks → walk (suc fuel) s n es at ≡ walk fuel s n (e ∷ es) next) → Names s n at e next
+    → Asked s n at marks (Cell l p a next)
+takes s n at marks e l p a next x y z w m =
+    let same = as-entry e l p a x y z in
+    (λ fuel es g. w fuel es g ∙ ap (λ (d : Entry). walk fuel s n (d ∷ es) next) (sym same), subst (λ (d : Entry). Names s n at d next) (sym same) m)
+
+pub keeps-none : (n : ℕ) (cells marks : List ℕ) → cells ≡ replicate 1840 0 → marks ≡ replicate 46 0 → Kept n [] cells marks
+keeps-none n cells marks x y = record {
+  held = held-none cells x n;
+  agrees = record {
+    same = λ d. ap (λ (l : List ℕ). marked l (d .line) (d .position)) y ∙ marked-none 46 (d .line) (d .position);
+    words = ap length y ∙ length-replicate {A = ℕ} 46 0;
+  };
+}
+
+pub record Walking (s : List ℕ) (n : ℕ) (cells marks : List ℕ) (at count : ℕ) : Type 0 where
+  pub es : List Entry
+  pub fuel : ℕ
+  pub same : walk (length s) s n [] 2 ≡ walk fuel s n es at
+  pub enough : length s ≤ at + fuel
+  pub inside : at ≤ length s
+  pub kept : Kept n es cells marks
+  pub counted : count ≡ length es
+  pub few : count + 2 ≤ at
+
+pub starts : (s : List ℕ) (n : ℕ) (cells marks : List ℕ) → 2 ≤ length s → Kept n [] cells marks → Walking s n cells marks 2 0
+starts s n cells marks h k = record {
+  es = [];
+  fuel = length s;
+  same = refl;
+  enough = omega arith;
+  inside = h;
+  kept = k;
+  counted = refl;
+  few = lit≤ tt;
+}
+
+module _ (s : List ℕ) (n : ℕ) (cells marks : List ℕ) (at count : ℕ) (w : Walking s n cells marks at count) where
+  -- the walk stands before the step that the code took
+  abbrev next-fuel : ℕ
+  next-fuel = pred (w .fuel)
+
+  before : walk (length s) s n [] 2 ≡ walk (suc next-fuel) s n (w .es) at
+  before = w .same ∙ one-more (w .fuel) s n at (w .es) (w .enough)
+
+  pub stopped : (q p : ℕ) → Asked s n at marks (Stop q p) → walk (length s) s n [] 2 ≡ Reading.refused q p
+  stopped q p t = before ∙ t next-fuel (w .es) (w .kept .agrees)
+
+  pub finished : Asked s n at marks End → Accepts (walk (length s) s n [] 2) n count cells
+  finished t = record {
+    es = w .es;
+    same = before ∙ t next-fuel (w .es) (w .kept .agrees);
+    counted = w .counted;
+    held = w .kept .held;
+  }
+
+  pub goes-on :
+      (e : Entry) (next : ℕ) (cells' marks' : List ℕ) → Asked s n at marks (Cell (e .line) (e .position) (e .amount) next)
+      → ((es : List Entry) → Kept n es cells marks → Kept n (e ∷ es) cells' marks') → Walking s n cells' marks' next (count + 1)
+  goes-on e next cells' marks' t k =
+      let o = t .1 .onward in
+      let z = w .enough in
+      let f = w .few in
+      record {
+        es = e ∷ w .es;
+        fuel = next-fuel;
+        same = before ∙ t .0 next-fuel (w .es) (w .kept .agrees);
+        enough = (let d : length s ≤ next + pred (w .fuel) = omega arith in d);
+        inside = t .1 .inside;
+        kept = k (w .es) (w .kept);
+        counted = add-one count ∙ ap suc (w .counted);
+        few = omega arith;
+      }
+
+-- the answer, and the cells after it
+pub settled-refused : (o : Reading) (q p : ℕ) (cells : List ℕ) → o ≡ Reading.refused q p → cells ≡ replicate 1840 0 → (Refused q p ≡ answerOf o) × Held o cells
+settled-refused o q p cells e z = (ap answerOf (sym e), subst (λ (r : Reading). Held r cells) (sym e) (held-refused cells z q p))
+
+pub settled-read : (o : Reading) (n k : ℕ) (cells : List ℕ) → Accepts o n k cells → (Read n k ≡ answerOf o) × Held o cells
+settled-read o n k cells a =
+    (ap (Read n) (a .counted) ∙ ap answerOf (sym (a .same)), subst (λ (r : Reading). Held r cells) (sym (a .same)) (a .held))

@@ -1,0 +1,229 @@
+// The walk over the records of a table file, into one slice of 1,840 cells and one of 46 words of marks.
+use cells::fill_zero;
+use file_records::amount_at;
+use file_records::is_inside;
+use file_records::is_marked;
+use file_records::is_whole;
+use file_records::line_at;
+use file_records::mark;
+use file_records::position_at;
+use file_records::record_length;
+use file_records::wide;
+use model::TableRead;
+ghost use mathlib.Core.List.{List, [], _∷_};
+ghost use mathlib.Core.Path.{_≡_};
+ghost use Prim.Native.Nat.{ℕ, _≤_};
+ghost use lib.ListN.{length, replicate};
+ghost use Rattle.model.specs.File.{Entry, kindAt, Reading, walk as walkFrom, reading, answerOf};
+ghost use Rattle.theory_files.specs.Files.{Within};
+ghost use Rattle.file_walk.specs.Steps.{Held, Kept, Begun, Naming, Asked, Ends, Opened};
+
+// What the walk does at a record: it stops with a refusal, it ends, or it takes a named cell and goes on.
+pub enum Step {
+    Stop {
+        number: u8,
+        place: usize,
+    },
+    End,
+    Cell {
+        line: usize,
+        position: usize,
+        amount: u64,
+        next: usize,
+    },
+}
+
+// Question 15 of a record of kind 8: is it the file's last byte?
+fn end_at(file: &[u8], at: usize) -> Step
+    requires { ⌜ Begun (now file) at × (kindAt (now file) at ≡ 8) ⌝ }
+    ensures { λ r. ⌜ ((n : ℕ) (marks : List ℕ) → Asked (now (file .entry)) n at marks r) ⌝ }
+{
+    if at + 1 == file.len() {
+        return Step::End;
+    }
+    Step::Stop {
+        number: 15,
+        place: at + 1,
+    }
+}
+
+// Questions 13 and 14 of a record that names a cell.
+fn cell_at(file: &[u8], at: usize, n: usize, marks: &[u64]) -> Step
+    requires { ⌜ (n ≤ 40) × (length (now marks) ≡ 46) × Begun (now file) at × Naming (now file) at ⌝ }
+    ensures { λ r. ⌜ Asked (now (file .entry)) n at (now (marks .entry)) r ⌝ }
+{
+    if !is_inside(file, at, n) {
+        return Step::Stop {
+            number: 13,
+            place: at,
+        };
+    }
+    let line = line_at(file, at);
+    let position = position_at(file, at);
+    if is_marked(marks, line, position) {
+        return Step::Stop {
+            number: 14,
+            place: at,
+        };
+    }
+    Step::Cell {
+        line,
+        position,
+        amount: amount_at(file, at),
+        next: at + record_length(file[at]),
+    }
+}
+
+// The questions of the record at an offset after the first.
+fn ask(file: &[u8], at: usize, n: usize, marks: &[u64]) -> Step
+    requires { ⌜ (n ≤ 40) × (length (now marks) ≡ 46) ⌝ }
+    ensures { λ r. ⌜ Asked (now (file .entry)) n at (now (marks .entry)) r ⌝ }
+{
+    if file.len() <= at {
+        return Step::Stop {
+            number: 15,
+            place: file.len(),
+        };
+    }
+    if !is_whole(file, at) {
+        return Step::Stop {
+            number: 11,
+            place: at,
+        };
+    }
+    if file[at] == 1 {
+        return Step::Stop {
+            number: 12,
+            place: at,
+        };
+    }
+    if file[at] == 8 {
+        return end_at(file, at);
+    }
+    cell_at(file, at, n, marks)
+}
+
+// Stores an amount in the cell of a line and a position.
+fn store(cells: &mut [u64], n: usize, line: usize, position: usize, amount: u64)
+    requires { ⌜ (n ≤ 40) × (length (now cells) ≡ 1840) × Within n (record { line = line; position = position; amount = amount }) ⌝ }
+    ensures { λ _. ⌜ ((es : List Entry) → Held (Reading.table n es) (now (cells .entry)) → Held (Reading.table n (record { line = line; position = position; amount = amount } ∷ es)) (now (cells .exit))) ⌝ }
+{
+    if line < 40 {
+        cells[line * n + position] = amount;
+        return;
+    }
+    cells[line * 40 + position] = amount;
+}
+
+// Marks and stores a named cell.
+fn keep(n: usize, line: usize, position: usize, amount: u64, cells: &mut [u64], marks: &mut [u64])
+    requires { ⌜ (n ≤ 40) × (length (now cells) ≡ 1840) × (length (now marks) ≡ 46) × Within n (record { line = line; position = position; amount = amount }) ⌝ }
+    ensures { λ _. ⌜ ((es : List Entry) → Kept n es (now (cells .entry)) (now (marks .entry)) → Kept n (record { line = line; position = position; amount = amount } ∷ es) (now (cells .exit)) (now (marks .exit))) ⌝ }
+{
+    mark(marks, line, position);
+    store(cells, n, line, position, amount);
+}
+
+// The records after the first.
+fn walk(file: &[u8], n: usize, cells: &mut [u64], marks: &mut [u64]) -> TableRead
+    requires { ⌜ (n ≤ 40) × (2 ≤ length (now file)) × Kept n [] (now cells) (now marks) ⌝ }
+    ensures { λ r. ⌜ Ends (walkFrom (length (now (file .entry))) (now (file .entry)) n [] 2) r (now (cells .exit)) ⌝ }
+{
+    let mut at: usize = 2;
+    let mut named: usize = 0;
+    loop {
+        let step = ask(file, at, n, marks);
+        match step {
+            Step::Stop { number, place } => return TableRead::Refused { number, place },
+            Step::End => return TableRead::Read { sectors: n, named },
+            Step::Cell {
+                line,
+                position,
+                amount,
+                next,
+            } => {
+                keep(n, line, position, amount, cells, marks);
+                named += 1;
+                at = next;
+            }
+        }
+    }
+}
+
+// The first record: n, with no cell named yet, or a refusal.
+fn open(file: &[u8]) -> TableRead
+    ensures { λ r. ⌜ Opened (now (file .entry)) r ⌝ }
+{
+    if file.len() == 0 {
+        return TableRead::Refused {
+            number: 15,
+            place: 0,
+        };
+    }
+    if !is_whole(file, 0) {
+        return TableRead::Refused {
+            number: 11,
+            place: 0,
+        };
+    }
+    if file[0] != 1 {
+        return TableRead::Refused {
+            number: 12,
+            place: 0,
+        };
+    }
+    let n = wide(file[1]);
+    if n < 1 {
+        return TableRead::Refused {
+            number: 12,
+            place: 0,
+        };
+    }
+    if 40 < n {
+        return TableRead::Refused {
+            number: 12,
+            place: 0,
+        };
+    }
+    TableRead::Read {
+        sectors: n,
+        named: 0,
+    }
+}
+
+// The whole file, into cells and marks of 0.
+fn walk_file(file: &[u8], cells: &mut [u64], marks: &mut [u64]) -> TableRead
+    requires { ⌜ (now cells ≡ replicate 1840 0) × (now marks ≡ replicate 46 0) ⌝ }
+    ensures { λ r. ⌜ Ends (reading (now (file .entry))) r (now (cells .exit)) ⌝ }
+{
+    let opening = open(file);
+    match opening {
+        TableRead::Refused { number, place } => TableRead::Refused { number, place },
+        TableRead::Read { sectors, named: _ } => walk(file, sectors, cells, marks),
+    }
+}
+
+// After a refusal the cells are 0.
+fn settle(answer: TableRead, cells: &mut [u64]) -> TableRead
+    requires { ⌜ length (now cells) ≡ 1840 ⌝ }
+    ensures { λ r. ⌜ ((o : Reading) → Ends o «answer» (now (cells .entry)) → (r ≡ answerOf o) × Held o (now (cells .exit))) ⌝ }
+{
+    match answer {
+        TableRead::Refused { number, place } => {
+            fill_zero(cells);
+            TableRead::Refused { number, place }
+        }
+        TableRead::Read { sectors, named } => TableRead::Read { sectors, named },
+    }
+}
+
+// The whole file, into cells of 0 and marks that hold anything.
+pub fn read_flat(file: &[u8], cells: &mut [u64], marks: &mut [u64]) -> TableRead
+    requires { ⌜ (now cells ≡ replicate 1840 0) × (length (now marks) ≡ 46) ⌝ }
+    ensures { λ r. ⌜ (r ≡ answerOf (reading (now (file .entry)))) × Held (reading (now (file .entry))) (now (cells .exit)) × (now (marks .exit) ≡ replicate 46 0) ⌝ }
+{
+    fill_zero(marks);
+    let answer = walk_file(file, cells, marks);
+    fill_zero(marks);
+    settle(answer, cells)
+}

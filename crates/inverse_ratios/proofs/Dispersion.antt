@@ -1,0 +1,25 @@
+-- Sums of a matrix with small cells. Assumes nothing.
+use Prim.Native.Nat.{ℕ, _*_, _≤_, _<_}
+use native.Mathlib.Nat.{le-trans}
+use native.Mathlib.Omega.{arith}
+use Rattle.model.specs.Numbers.{transposed}
+use Rattle.inverse_ratios.specs.Columns.{columnSum, allCells, cellLimit, columnLimit, Dispersed}
+use Rattle.theory.proofs.Sums.{sum-mono, sum-const, sum-cell}
+
+module _ {n : ℕ} {c : ℕ → ℕ → ℕ} (D : Dispersed n c) where
+  pub column-small : (j : ℕ) → j < n → columnSum n c j ≤ columnLimit
+  column-small j h =
+      let few = D .few in
+      omega (arith, sum-mono n {f = transposed c j} {g = λ i. cellLimit} (λ i l. D .small i j l h), sum-const n cellLimit)
+
+  pub cells-small : allCells n c ≤ 40 * columnLimit
+  cells-small =
+      let few = D .few in
+      omega (arith, sum-mono n {f = columnSum n c} {g = λ j. columnLimit} column-small, sum-const n columnLimit)
+
+  pub cells-positive : 1 ≤ allCells n c
+  cells-positive =
+      le-trans (D .positive) (le-trans (sum-cell n (transposed c 0) 0 (D .some)) (sum-cell n (columnSum n c) 0 (D .some)))
+
+  pub turned : Dispersed n (transposed c)
+  turned = record { some = D .some; few = D .few; small = λ i j h l. D .small j i l h; positive = D .positive }

@@ -1,0 +1,160 @@
+// From a table to the figures of its printed sheet: its sheets, production, induced amounts. The table lies in one slice of 1,840 cells, as the
+// walk over a table file leaves it: x row by row from cell 0 on, and a column every 40 cells from cell 1,600 on. No text here.
+use coefficients::coefficients;
+use induced::induced;
+use model::Answer;
+use model::Outcome;
+use production::production;
+ghost use mathlib.Core.Path.{_≡_};
+ghost use Prim.Native.Nat.{_≤_, _*_};
+ghost use lib.ListN.{length};
+ghost use Rattle.model.specs.Checks.{report, reportRounds};
+ghost use Rattle.page_figures.specs.Stages.{tableIn, Sheets, Induced, Produced, Figures};
+
+// The sheets of the table of n sectors that lies in the cells.
+fn fill_sheets(
+    n: usize,
+    cells: &[u64],
+    a: &mut [u64],
+    v: &mut [u64],
+    m: &mut [u64],
+    d: &mut [u64],
+    f: &mut [u64],
+) -> Answer
+    requires { ⌜ (n ≤ 40) × (length (now cells) ≡ 1840) ⌝ }
+    requires { ⌜ (length (now a) ≡ n * n) × (length (now v) ≡ n) × (length (now m) ≡ n) × (length (now d) ≡ n * n) × (length (now f) ≡ n) ⌝ }
+    ensures { λ r. ⌜ Sheets (tableIn n (now (cells .entry))) (report r) (now (a .exit)) (now (v .exit)) (now (m .exit)) (now (d .exit)) (now (f .exit)) ⌝ }
+{
+    let square = n * n;
+    coefficients(
+        n,
+        &cells[0..square],
+        &cells[1600..1600 + n],
+        &cells[1640..1640 + n],
+        &cells[1680..1680 + n],
+        &cells[1720..1720 + n],
+        &cells[1760..1760 + n],
+        a,
+        v,
+        m,
+        d,
+        f,
+    )
+}
+
+// What a production that took some rounds induces.
+fn fill_induced(
+    n: usize,
+    a: &[u64],
+    m: &[u64],
+    v: &[u64],
+    final_demand: &[u64],
+    y: &[u64],
+    rounds: u32,
+    value: &mut [u64],
+    imports: &mut [u64],
+) -> Outcome
+    requires { ⌜ (length (now value) ≡ n) × (length (now imports) ≡ n) ⌝ }
+    ensures { λ r. ⌜ Induced n (now (a .entry)) (now (m .entry)) (now (v .entry)) (now («final_demand» .entry)) (now (y .entry)) rounds (reportRounds r) (now (value .exit)) (now (imports .exit)) ⌝ }
+{
+    let answer = induced(n, a, m, v, final_demand, y, value, imports);
+    match answer {
+        Answer::Refused { number, place } => Outcome::Refused { number, place },
+        Answer::Accepted => Outcome::Settled { rounds },
+    }
+}
+
+// Production of a demand for domestic goods, and what it induces.
+fn fill_produced(
+    n: usize,
+    a: &[u64],
+    m: &[u64],
+    v: &[u64],
+    final_demand: &[u64],
+    d: &[u64],
+    f: &[u64],
+    y: &mut [u64],
+    value: &mut [u64],
+    imports: &mut [u64],
+) -> Outcome
+    requires { ⌜ (n ≤ 40) × (length (now y) ≡ n) × (length (now value) ≡ n) × (length (now imports) ≡ n) ⌝ }
+    ensures { λ r. ⌜ Produced n (now (a .entry)) (now (m .entry)) (now (v .entry)) (now («final_demand» .entry)) (now (d .entry)) (now (f .entry)) (reportRounds r) (now (y .exit)) (now (value .exit)) (now (imports .exit)) ⌝ }
+{
+    let mut work = [0u64; 40];
+    let outcome = production(n, d, f, 1400, y, &mut work[0..n]);
+    match outcome {
+        Outcome::Refused { number, place } => Outcome::Refused { number, place },
+        Outcome::Settled { rounds } => {
+            fill_induced(n, a, m, v, final_demand, y, rounds, value, imports)
+        }
+    }
+}
+
+// The figures of a table, over slices for its sheets.
+fn fill_figures(
+    n: usize,
+    cells: &[u64],
+    a: &mut [u64],
+    v: &mut [u64],
+    m: &mut [u64],
+    d: &mut [u64],
+    f: &mut [u64],
+    y: &mut [u64],
+    value: &mut [u64],
+    imports: &mut [u64],
+) -> Outcome
+    requires { ⌜ (n ≤ 40) × (length (now cells) ≡ 1840) ⌝ }
+    requires { ⌜ (length (now a) ≡ n * n) × (length (now v) ≡ n) × (length (now m) ≡ n) × (length (now d) ≡ n * n) × (length (now f) ≡ n) ⌝ }
+    requires { ⌜ (length (now y) ≡ n) × (length (now value) ≡ n) × (length (now imports) ≡ n) ⌝ }
+    ensures { λ r. ⌜ Figures (tableIn n (now (cells .entry))) (reportRounds r) (now (f .exit)) (now (y .exit)) (now (value .exit)) (now (imports .exit)) ⌝ }
+{
+    let answer = fill_sheets(n, cells, a, v, m, d, f);
+    match answer {
+        Answer::Refused { number, place } => Outcome::Refused { number, place },
+        Answer::Accepted => fill_produced(
+            n,
+            a,
+            m,
+            v,
+            &cells[1600..1600 + n],
+            d,
+            f,
+            y,
+            value,
+            imports,
+        ),
+    }
+}
+
+// The figures of the table of n sectors that lies in the cells: demand for domestic goods, production, and the value added and the imports that
+// it induces, with how many rounds it took; or the first refusal of the calls that work them out.
+pub fn table_figures(
+    n: usize,
+    cells: &[u64],
+    f: &mut [u64],
+    y: &mut [u64],
+    value: &mut [u64],
+    imports: &mut [u64],
+) -> Outcome
+    requires { ⌜ (n ≤ 40) × (length (now cells) ≡ 1840) ⌝ }
+    requires { ⌜ (length (now f) ≡ n) × (length (now y) ≡ n) × (length (now value) ≡ n) × (length (now imports) ≡ n) ⌝ }
+    ensures { λ r. ⌜ Figures (tableIn n (now (cells .entry))) (reportRounds r) (now (f .exit)) (now (y .exit)) (now (value .exit)) (now (imports .exit)) ⌝ }
+{
+    let square = n * n;
+    let mut a = [0u64; 1600];
+    let mut v = [0u64; 40];
+    let mut m = [0u64; 40];
+    let mut d = [0u64; 1600];
+    fill_figures(
+        n,
+        cells,
+        &mut a[0..square],
+        &mut v[0..n],
+        &mut m[0..n],
+        &mut d[0..square],
+        f,
+        y,
+        value,
+        imports,
+    )
+}

@@ -1,0 +1,48 @@
+-- `page_text::put_word` meets its contract: the bytes from i on are left. Assumes nothing.
+use mathlib.Core.Path.{_≡_, refl, sym, ap}
+use mathlib.Core.List.{List, [], _∷_}
+use Prim.Native.Nat.{ℕ, _+_, _-_, _≤_}
+use native.Mathlib.Omega.{arith}
+use lib.ListN.{length, getD, drop, drop-of-length-le}
+use lib.Seq.{sets}
+use Rattle.page_text.proofs.Stores.{Begun, begin, go-on, done, kept, drop-first}
+use Rattle.page_text.proofs.put_word.Statement.{statement}
+use Rattle.page_text.proofs.put_word.Tie as tie
+
+abbrev Inv-loop : tie.InvT-loop
+Inv-loop word at out₀ i₀ i-end out i = (i ≤ length word) × (i-end ≡ length word) × Begun word at out₀ out (at + i) (drop i word)
+
+abbrev μ-loop : tie.MeasureT-loop
+μ-loop word at out₀ i₀ i-end out i = length word - i
+
+abbrev entry : tie.At-loop Inv-loop μ-loop → tie.Start Inv-loop μ-loop
+entry p = p .before
+
+loop-holds : tie.Need-loop-holds Inv-loop μ-loop
+loop-holds c =
+    let word = c .args .word .now in
+    (omega arith, refl, go-on [] word refl (begin word (c .args .at) (c .args .out .now)) (refl, refl))
+
+loop-again : tie.Need-loop-again Inv-loop μ-loop
+loop-again c =
+    let l = c .before .before .loop in
+    let word = entry (c .before .before) .args .word .now in (
+      omega arith,
+      refl,
+      go-on (getD word (l .i) 0 ∷ []) (drop (l .i + 1) word) (drop-first word (l .i) (c .before .loop-test .taken)) (l .inv .2) (omega arith, refl),
+    )
+
+returns : tie.Need-returns Inv-loop μ-loop
+returns c =
+    let l = c .before .loop in
+    let a = entry (c .before) .args in
+    let e = drop-of-length-le (a .word .now) {i = l .i} (omega arith) in
+    done (l .inv .2) (omega (arith, ap length e), sym (ap (λ (x : List ℕ). sets (l .out) (a .at + l .i) x) e))
+
+pub put-word-spec : {M : Type 1} → statement M
+put-word-spec =
+    tie.close
+    (tie.spec
+    Inv-loop μ-loop loop-holds (λ c. omega arith) (λ c. omega arith)
+    (λ c. omega (arith, kept (c .before .before .loop .inv .2))) (λ c. omega arith) (λ c. omega arith) loop-again
+    (λ c. omega arith) (λ c. kept (c .before .loop .inv .2)) returns)

@@ -1,0 +1,61 @@
+-- `settle_loop::settle` meets its contract, by those of what it calls. Assumes nothing.
+use mathlib.Core.Bool.{true}
+use mathlib.Core.Path.{_≡_, sym, ap, _∙_}
+use Prim.Native.Nat.{ℕ}
+use borrow.Author.Needs.{needs}
+use lib.ListN.{length, replicate}
+use Rattle.model.specs.Numbers.{at, oriented}
+use Rattle.model.specs.Rounds.{settled}
+use Rattle.model.specs.Checks.{reportRounds}
+use Rattle.model.specs.declared.Outcome.{Outcome}
+use Rattle.theory_rounds.proofs.Settling.{found}
+use Rattle.settle_loop.proofs.settle.Statement.{statement}
+use Rattle.settle_loop.proofs.settle.Tie as tie
+
+abbrev entry : tie.After-run-rounds → tie.Start
+entry q = q .before .before .before .before .before .before .before .before .before .before .before
+
+abbrev searched : tie.After-fill-zero → tie.After-run-rounds
+searched q = q .before .before .before .before .before .before
+
+-- the lengths of the outputs and of the work cells after the rounds, and the work cells once they are cleared
+out-length : (q : tie.After-run-rounds) → length (q .run-rounds .last .1 .1 .1 .1 .1 .0) ≡ entry q .args .n
+out-length q =
+    q .run-rounds .kept .1 .1 .1 .1 .1 .0 ∙ ap length (q .before .before .before .before .before .copy-cells .ensures) ∙ entry q .pre .0 .1
+
+cleared : (f : tie.After-fill-zero) → f .fill-zero .last .0 ≡ replicate (entry (searched f) .args .n) 0
+cleared f =
+    let q = searched f in
+    f .fill-zero .ensures ∙ ap (λ (k : ℕ). replicate k 0) (q .run-rounds .kept .1 .1 .1 .1 .1 .1 .0 ∙ entry q .pre .0 .3)
+
+-- outputs that a settled search leaves are the settled amounts
+amounts :
+    (q : tie.After-run-rounds) → reportRounds (q .run-rounds .result) .accepted ≡ true →
+    let a = entry q .args in
+    q .run-rounds .last .1 .1 .1 .1 .1 .0 ≡ settled (a .n) (oriented (a .transposed) (at (a .n) (a .d .now))) (a .start .now) (a .budget)
+amounts q e =
+    let a = entry q .args in
+    let s = q .run-rounds .ensures .1 e in
+    sym (found (a .n) (oriented (a .transposed) (at (a .n) (a .d .now))) (a .start .now) (a .budget) (s .0) (s .1) .1)
+
+returns : tie.Need-returns
+returns c =
+    let f = c .before .before .before .before .before .before .before .before .before in
+    let q = searched f in
+    let e = c .before .before .before .before .before .outcome .given .1 in
+    (sym (ap reportRounds e) ∙ q .run-rounds .ensures .0, (c .before .before .fill-zero2 .ensures ∙ ap (λ (k : ℕ). replicate k 0) (out-length q), cleared f))
+
+returns-2 : tie.Need-returns-2
+returns-2 c =
+    let f = c .before .before .before .before in
+    let q = searched f in
+    let t = ap (λ (o : Outcome). reportRounds o .accepted) (c .enum-told .given .1) in
+    (q .run-rounds .ensures .0, (rw t (amounts q t), cleared f))
+
+pub settle-spec : {M : Type 1} → statement M
+settle-spec =
+    tie.close
+    (tie.spec
+    (λ c κs. search needs) (λ c κs. search needs) (λ c κs. search needs) (λ c. search needs) (λ c κs. search needs)
+    (λ c. search needs) (λ c. search needs) returns (λ c. search needs) (λ c. search needs) (λ c. search needs)
+    returns-2)

@@ -1,0 +1,71 @@
+// The weighted sums along the rows of a matrix, which a settling loop carries from round to round.
+use cells::weighted_sum;
+ghost use mathlib.Core.Bool.{true};
+ghost use mathlib.Core.Path.{_≡_};
+ghost use Prim.Native.Nat.{ℕ, _+_, _*_, _-_, _<_, _≤_};
+ghost use lib.ListN.{length};
+ghost use Rattle.model.specs.Numbers.{at, cell, tabulate};
+ghost use Rattle.theory_rounds.specs.Bounds.{sumLimit, Narrow};
+ghost use Rattle.theory_rounds.specs.Rises.{raised, Written};
+
+// The same rise; where rises are narrow the compiler is told so.
+fn narrowed(narrow: bool, rise: u64) -> u64
+    requires { ⌜ (narrow ≡ true → rise < 4294967296) ⌝ }
+    ensures { λ r. ⌜ r ≡ rise ⌝ }
+{
+    if narrow {
+        return rise % 4_294_967_296;
+    }
+    rise
+}
+
+// Adds what a rise of sector j adds to the sums of rows i to i + 3. Narrow coefficients take one multiplication of 32 bits where the rise is
+// narrow too, and two where it is not.
+fn add_products(n: usize, d: &[u64], j: usize, rise: u64, i: usize, sums: &mut [u64])
+    requires { ⌜ (length (now d) ≡ n * n) × (length (now sums) ≡ n) × (j < n) × (i + 3 < n) × Narrow (now d) ⌝ }
+    requires { ⌜ ((c : ℕ) → i ≤ c → c < i + 4 → cell (now sums) c + at n (now d) c j * rise ≤ sumLimit) ⌝ }
+    ensures { λ _. ⌜ Written (now (sums .exit)) i 4 (λ c. cell (now (sums .entry)) c + at n (now (d .entry)) c j * rise) (now (sums .entry)) ⌝ }
+{
+    for k in 0..4 {
+        sums[i + k] += d[(i + k) * n + j] % 4_294_967_296 * rise;
+    }
+}
+
+// Adds what all rises add to the sums of rows i to i + 3, in one pass over the rises.
+fn add_block(n: usize, d: &[u64], narrow: bool, rises: &[u64], i: usize, sums: &mut [u64])
+    requires { ⌜ (length (now d) ≡ n * n) × (length (now rises) ≡ n) × (length (now sums) ≡ n) × (i + 3 < n) ⌝ }
+    requires { ⌜ Narrow (now d) × (narrow ≡ true → Narrow (now rises)) ⌝ }
+    requires { ⌜ ((c : ℕ) → i ≤ c → c < n → raised n (now d) (now rises) (now sums) c ≤ sumLimit) ⌝ }
+    ensures { λ _. ⌜ Written (now (sums .exit)) i 4 (raised n (now (d .entry)) (now (rises .entry)) (now (sums .entry))) (now (sums .entry)) ⌝ }
+{
+    for j in 0..n {
+        let rise = narrowed(narrow, rises[j]);
+        add_products(n, d, j, rise, i, sums);
+    }
+}
+
+// Adds what all rises add to the sums from row i on, row by row.
+fn add_rest(n: usize, d: &[u64], rises: &[u64], i: usize, sums: &mut [u64])
+    requires { ⌜ (length (now d) ≡ n * n) × (length (now rises) ≡ n) × (length (now sums) ≡ n) × (i ≤ n) ⌝ }
+    requires { ⌜ ((c : ℕ) → i ≤ c → c < n → raised n (now d) (now rises) (now sums) c ≤ sumLimit) ⌝ }
+    ensures { λ _. ⌜ Written (now (sums .exit)) i (n - i) (raised n (now (d .entry)) (now (rises .entry)) (now (sums .entry))) (now (sums .entry)) ⌝ }
+{
+    for k in 0..n - i {
+        sums[i + k] += weighted_sum(n, d, rises, i + k);
+    }
+}
+
+// Adds what all rises add to the sums of every row, four rows at a time while there are four.
+pub fn add_rises(n: usize, d: &[u64], narrow: bool, rises: &[u64], sums: &mut [u64])
+    requires { ⌜ (length (now d) ≡ n * n) × (length (now rises) ≡ n) × (length (now sums) ≡ n) ⌝ }
+    requires { ⌜ Narrow (now d) × (narrow ≡ true → Narrow (now rises)) ⌝ }
+    requires { ⌜ ((c : ℕ) → c < n → raised n (now d) (now rises) (now sums) c ≤ sumLimit) ⌝ }
+    ensures { λ _. ⌜ now (sums .exit) ≡ tabulate n (raised n (now (d .entry)) (now (rises .entry)) (now (sums .entry))) ⌝ }
+{
+    let mut i: usize = 0;
+    while i + 3 < n {
+        add_block(n, d, narrow, rises, i, sums);
+        i += 4;
+    }
+    add_rest(n, d, rises, i, sums);
+}

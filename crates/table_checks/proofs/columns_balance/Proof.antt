@@ -1,0 +1,104 @@
+-- `table_checks::columns_balance` meets its contract. Within a column sum is the sum of the cells above i; every column before j balances. Assumes
+-- nothing.
+use mathlib.Core.List.{[], _∷_}
+use mathlib.Core.Path.{_≡_, refl, sym, ap, _∙_}
+use Prim.Native.Nat.{ℕ, _+_, _*_, _≤_, _-_, _<_}
+use native.Mathlib.Nat.{le-trans}
+use native.Mathlib.Omega.{arith}
+use borrow.Author.Tests.{eq-eqb, ne-eqb}
+use Rattle.model.specs.Numbers.{sum, at, cell, transposed}
+use Rattle.model.specs.Table.{Table, tableOf}
+use Rattle.model.specs.Checks.{amountLimit, columnBalances}
+use Rattle.theory.proofs.Sums.{sum-more, sum-done, cell-in}
+use Rattle.theory.proofs.Lists.{All, all-none, all-more}
+use Rattle.theory.proofs.Verdicts.{passed, failed-each}
+use Rattle.table_checks.proofs.columns_balance.Statement.{statement}
+use Rattle.table_checks.proofs.columns_balance.Tie as tie
+
+abbrev Inv-loop : tie.InvT-loop
+Inv-loop n x value production j sum₀ i₀ s i = (i ≤ n) × (s ≡ sum i (transposed (at n x) j)) × (s ≤ i * amountLimit)
+
+abbrev μ-loop : tie.MeasureT-loop
+μ-loop n x value production j sum₀ i₀ s i = n - i
+
+abbrev Inv-scan : tie.InvT-scan
+Inv-scan n x value production j₀ j = (j ≤ n) × All (columnBalances (tableOf n x ([] ∷ [] ∷ [] ∷ value ∷ production ∷ [])) .passes) j
+
+abbrev μ-scan : tie.MeasureT-scan
+μ-scan n x value production j₀ j = n - j
+
+-- the table as far as it is looked at, and the cells of column j
+abbrev table : tie.Start Inv-loop μ-loop Inv-scan μ-scan → Table
+table s = let a = s .args in tableOf (a .n) (a .x .now) ([] ∷ [] ∷ [] ∷ a .value-added .now ∷ a .production .now ∷ [])
+
+abbrev column : tie.At-scan Inv-loop μ-loop Inv-scan μ-scan → ℕ → ℕ
+column p = transposed (at (p .before .args .n) (p .before .args .x .now)) (p .scan .j)
+
+-- the cell that is added lies in the matrix and is within the limit
+term :
+    (c : tie.In-loop Inv-loop μ-loop Inv-scan μ-scan) →
+    let p = c .before .before .before in
+    let a = p .before .args in
+    let k = c .before .loop .i * a .n + p .scan .j in
+    (k < a .n * a .n) × (cell (a .x .now) k ≤ amountLimit)
+term c =
+    let p = c .before .before .before in
+    let s = p .before in
+    let h = cell-in (s .args .n) (c .before .loop .i) (p .scan .j) (c .loop-test .taken) (c .before .before .if1 .left) in
+    (h, s .pre .1 .0 (c .before .loop .i * s .args .n + p .scan .j))
+
+fits : (c : tie.In-loop Inv-loop μ-loop Inv-scan μ-scan) → c .before .loop .i ≤ 40
+fits c = le-trans (c .before .loop .inv .0) (c .before .before .before .before .pre .0 .0)
+
+-- at a column's end sum is the column's sum
+done :
+    (c : tie.After-loop Inv-loop μ-loop Inv-scan μ-scan) →
+    let p = c .before .before .before in
+    c .before .loop .sum ≡ sum (p .before .args .n) (column p)
+done c =
+    let l = c .before .loop in
+    let p = c .before .before .before in
+    sum-done (column p) (l .i) (p .before .args .n) (l .sum) (l .inv .1) (l .inv .0) (c .loop-test .left)
+
+loop-again : tie.Need-loop-again Inv-loop μ-loop Inv-scan μ-scan
+loop-again c =
+    let l = c .before .before .loop in
+    (omega arith, sum-more (column (c .before .before .before .before)) (l .i) (l .sum) (l .inv .1), omega (arith, term (c .before) .1))
+
+add-if2 : tie.Need-add-if2 Inv-loop μ-loop Inv-scan μ-scan
+add-if2 c =
+    let l = c .before .before .loop in
+    let p = c .before .before .before .before in
+    let s = p .before in
+    omega (arith, s .pre .1 .1 (p .scan .j), le-trans (l .inv .0) (s .pre .0 .0))
+
+scan-again : tie.Need-scan-again Inv-loop μ-loop Inv-scan μ-scan
+scan-again c =
+    let q = c .before .before .before in
+    let p = q .before .before .before in
+    let v = cell (p .before .args .value-added .now) (p .scan .j) in
+    let e = ap (λ (t : ℕ). t + v) (sym (done q)) ∙ c .if2 .left in
+    (omega arith, all-more _ (p .scan .j) (p .scan .inv .1) (eq-eqb _ _ e))
+
+returns : tie.Need-returns Inv-loop μ-loop Inv-scan μ-scan
+returns c =
+    let p = c .before in
+    sym (passed (columnBalances (table (p .before))) [] [] (p .scan .j) (c .if1 .taken) (p .scan .inv .1))
+
+returns-2 : tie.Need-returns-2 Inv-loop μ-loop Inv-scan μ-scan
+returns-2 c =
+    let q = c .before .before .before in
+    let p = q .before .before .before in
+    let v = cell (p .before .args .value-added .now) (p .scan .j) in
+    let h = q .before .before .if1 .left in
+    sym (failed-each 4 (p .before .args .n) (columnBalances (table (p .before)) .passes) [] [] (p .scan .j) h (p .scan .inv .1)
+    (ne-eqb _ _ (λ e. c .if2 .taken (ap (λ (t : ℕ). t + v) (done q) ∙ e))))
+
+pub columns-balance-spec : {M : Type 1} → statement M
+columns-balance-spec =
+    tie.close
+    (tie.spec
+    Inv-loop μ-loop Inv-scan μ-scan (λ c. (omega arith, all-none _)) (λ c. (omega arith, refl, omega arith))
+    (λ c. omega (arith, term c .0)) (λ c. omega (arith, term c .0)) (λ c. omega (arith, term c .0))
+    (λ c. omega (arith, term (c .before) .0)) (λ c. omega (arith, term (c .before) .1, fits (c .before))) (λ c. omega arith) (λ c. omega arith) loop-again
+    (λ c. omega arith) (λ c. omega arith) add-if2 (λ c. omega arith) (λ c. omega arith) (λ c. omega arith) (λ c. omega arith) scan-again returns returns-2)

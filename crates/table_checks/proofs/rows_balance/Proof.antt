@@ -1,0 +1,73 @@
+-- `table_checks::rows_balance` meets its contract: every row before i balances. Assumes nothing.
+use mathlib.Core.List.{[], _∷_}
+use mathlib.Core.Path.{_≡_, sym, ap, _∙_}
+use Prim.Native.Nat.{ℕ, _+_, _≤_, _-_}
+use native.Mathlib.Omega.{arith}
+use borrow.Author.Tests.{eq-eqb, ne-eqb}
+use Rattle.model.specs.Numbers.{cell}
+use Rattle.model.specs.Table.{Table, tableOf, exports, need}
+use Rattle.model.specs.Checks.{amountLimit, rowBalances}
+use Rattle.theory.proofs.Lists.{All, all-none, all-more}
+use Rattle.theory.proofs.Verdicts.{passed, failed-each}
+use Rattle.table_checks.proofs.rows_balance.Statement.{statement}
+use Rattle.table_checks.proofs.rows_balance.Tie as tie
+
+abbrev Inv-loop : tie.InvT-loop
+Inv-loop n x demand abroad imports production i₀ i =
+    (i ≤ n) × All (rowBalances (tableOf n x (demand ∷ abroad ∷ imports ∷ [] ∷ production ∷ [])) .passes) i
+
+abbrev μ-loop : tie.MeasureT-loop
+μ-loop n x demand exports imports production i₀ i = n - i
+
+abbrev entry : tie.At-loop Inv-loop μ-loop → tie.Start Inv-loop μ-loop
+entry p = p .before .before .before .before .before .before
+
+abbrev table : tie.Start Inv-loop μ-loop → Table
+table s = let a = s .args in tableOf (a .n) (a .x .now) (a .final-demand .now ∷ a .exports .now ∷ a .imports .now ∷ [] ∷ a .production .now ∷ [])
+
+-- the amounts of the sector are within their limit
+small :
+    (q : tie.After-need-of Inv-loop μ-loop) →
+    let i = q .before .before .loop .i in
+    let a = entry (q .before .before) .args in
+    (cell (a .exports .now) i ≤ amountLimit) × (cell (a .imports .now) i ≤ amountLimit) × (cell (a .production .now) i ≤ amountLimit)
+small q = entry (q .before .before) .pre .1 .1 .1 (q .before .before .loop .i)
+
+-- the code's need of the sector with its exports is the check's
+needed :
+    (q : tie.After-need-of Inv-loop μ-loop) →
+    let i = q .before .before .loop .i in
+    let t = table (entry (q .before .before)) in
+    q .need-of .result + cell (exports t) i ≡ need t i + cell (exports t) i
+needed q = ap (λ (k : ℕ). k + cell (entry (q .before .before) .args .exports .now) (q .before .before .loop .i)) (q .need-of .ensures .0)
+
+need-of-requires : tie.Need-need-of-requires Inv-loop μ-loop
+need-of-requires c κs =
+    let s = entry (c .before) in
+    ((s .pre .0 .0, c .loop-test .taken, s .pre .0 .1, s .pre .0 .2), (s .pre .1 .0, s .pre .1 .1 .0))
+
+returns : tie.Need-returns Inv-loop μ-loop
+returns c =
+    let q = c .before .before .before .before in
+    let p = q .before .before in
+    sym (failed-each 5 (entry p .args .n) (rowBalances (table (entry p)) .passes) [] [] (p .loop .i) (q .before .loop-test .taken) (p .loop .inv .1)
+    (ne-eqb _ _ (λ e. c .if1 .taken (needed q ∙ e))))
+
+loop-again : tie.Need-loop-again Inv-loop μ-loop
+loop-again c =
+    let q = c .before .before .before .before in
+    let l = q .before .before .loop in
+    (omega arith, all-more _ (l .i) (l .inv .1) (eq-eqb _ _ (sym (needed q) ∙ c .if1 .left)))
+
+returns-2 : tie.Need-returns-2 Inv-loop μ-loop
+returns-2 c =
+    let p = c .before in
+    sym (passed (rowBalances (table (entry p))) [] [] (p .loop .i) (c .loop-test .left) (p .loop .inv .1))
+
+pub rows-balance-spec : {M : Type 1} → statement M
+rows-balance-spec =
+    tie.close
+    (tie.spec
+    Inv-loop μ-loop (λ c. (omega arith, all-none _)) need-of-requires (λ c. omega arith) (λ c. omega arith)
+    (λ c. omega (arith, c .before .need-of .ensures .1, small (c .before) .0)) (λ c. omega arith) (λ c. omega arith) (λ c. omega arith)
+    (λ c. omega arith) (λ c. omega (arith, small (c .before .before .before))) returns (λ c. omega arith) (λ c. omega arith) loop-again returns-2)

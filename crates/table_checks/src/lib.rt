@@ -1,0 +1,223 @@
+// The checks of a table: its amounts, its balances, and its imports.
+use checks::check_sizes;
+use checks::matrix_within;
+use checks::next_within;
+use model::Answer;
+ghost use mathlib.Core.List.{List, [], _∷_, _++_};
+ghost use mathlib.Core.Path.{_≡_};
+ghost use Prim.Native.Nat.{ℕ, _*_, _<_, _≤_};
+ghost use lib.ListN.{length};
+ghost use Rattle.model.specs.Numbers.{cell};
+ghost use Rattle.model.specs.Table.{absorption, tableOf};
+ghost use Rattle.model.specs.Checks.{amountLimit, balanceChecks, columnBalances, importsCovered, lengths, report, rowBalances, size, tableAmounts, verdict};
+ghost use Rattle.theory.specs.Slices.{Columns, Each};
+ghost use Rattle.theory_tables.specs.Tables.{TableAmounts, TableSizes};
+
+// Domestic need of sector i: what all sectors buy of it, and final demand.
+pub fn need_of(n: usize, x: &[u64], final_demand: &[u64], i: usize) -> u64
+    requires { ⌜ (n ≤ 40) × (i < n) × (length (now x) ≡ n * n) × (length (now «final_demand») ≡ n) ⌝ }
+    requires { ⌜ ((k : ℕ) → cell (now x) k ≤ amountLimit) ⌝ }
+    requires { ⌜ ((k : ℕ) → cell (now «final_demand») k ≤ amountLimit) ⌝ }
+    ensures { λ r. ⌜ (r ≡ absorption n (now (x .entry)) (now («final_demand» .entry)) i) × (r ≤ 41000000000) ⌝ }
+{
+    let mut sum: u64 = 0;
+    for j in 0..n {
+        sum += x[i * n + j];
+    }
+    sum + final_demand[i]
+}
+
+// Question 3: is every amount of a table within its limit? Places are counted on through the slices.
+pub fn check_amounts(
+    n: usize,
+    x: &[u64],
+    final_demand: &[u64],
+    exports: &[u64],
+    imports: &[u64],
+    value_added: &[u64],
+    production: &[u64],
+) -> Answer
+    requires { ⌜ length (now x) ≡ n * n ⌝ }
+    ensures { λ r. ⌜ report r ≡ verdict (tableAmounts (tableOf n (now (x .entry)) (now («final_demand» .entry) ∷ now (exports .entry) ∷ now (imports .entry) ∷ now («value_added» .entry) ∷ now (production .entry) ∷ []))) [] ⌝ }
+{
+    let limit = 1_000_000_000;
+    let flows = matrix_within(n, x, limit);
+    let from_demand = x.len();
+    let demands = next_within(flows, from_demand, limit, final_demand);
+    let from_exports = from_demand + final_demand.len();
+    let abroad = next_within(demands, from_exports, limit, exports);
+    let from_imports = from_exports + exports.len();
+    let imported = next_within(abroad, from_imports, limit, imports);
+    let from_values = from_imports + imports.len();
+    let values = next_within(imported, from_values, limit, value_added);
+    let from_production = from_values + value_added.len();
+    next_within(values, from_production, limit, production)
+}
+
+// Question 4: does every column balance? The column is left at its end.
+fn columns_balance(n: usize, x: &[u64], value_added: &[u64], production: &[u64]) -> Answer
+    requires { ⌜ (n ≤ 40) × (length (now x) ≡ n * n) × (length (now «value_added») ≡ n) × (length (now production) ≡ n) ⌝ }
+    requires { ⌜ ((k : ℕ) → cell (now x) k ≤ amountLimit) ⌝ }
+    requires { ⌜ ((k : ℕ) → cell (now «value_added») k ≤ amountLimit) ⌝ }
+    ensures { λ r. ⌜ report r ≡ verdict (columnBalances (tableOf n (now (x .entry)) ([] ∷ [] ∷ [] ∷ now («value_added» .entry) ∷ now (production .entry) ∷ [])) ∷ []) [] ⌝ }
+{
+    let mut j = 0;
+    'scan: loop {
+        if n <= j {
+            break 'scan Answer::Accepted;
+        }
+        let mut sum: u64 = 0;
+        for i in 0..n {
+            sum += x[i * n + j];
+        }
+        if sum + value_added[j] != production[j] {
+            break 'scan Answer::Refused {
+                number: 4,
+                place: j,
+            };
+        }
+        j += 1;
+    }
+}
+
+// Question 5: does every row balance?
+fn rows_balance(
+    n: usize,
+    x: &[u64],
+    final_demand: &[u64],
+    exports: &[u64],
+    imports: &[u64],
+    production: &[u64],
+) -> Answer
+    requires { ⌜ (n ≤ 40) × (length (now x) ≡ n * n) × (length (now «final_demand») ≡ n) × (length (now exports) ≡ n) × (length (now imports) ≡ n) × (length (now production) ≡ n) ⌝ }
+    requires { ⌜ ((k : ℕ) → cell (now x) k ≤ amountLimit) ⌝ }
+    requires { ⌜ ((k : ℕ) → cell (now «final_demand») k ≤ amountLimit) ⌝ }
+    requires { ⌜ ((k : ℕ) → (cell (now exports) k ≤ amountLimit) × (cell (now imports) k ≤ amountLimit) × (cell (now production) k ≤ amountLimit)) ⌝ }
+    ensures { λ r. ⌜ report r ≡ verdict (rowBalances (tableOf n (now (x .entry)) (now («final_demand» .entry) ∷ now (exports .entry) ∷ now (imports .entry) ∷ [] ∷ now (production .entry) ∷ [])) ∷ []) [] ⌝ }
+{
+    for i in 0..n {
+        let need = need_of(n, x, final_demand, i);
+        if need + exports[i] != production[i] + imports[i] {
+            return Answer::Refused {
+                number: 5,
+                place: i,
+            };
+        }
+    }
+    Answer::Accepted
+}
+
+// Question 6: are a sector's imports at most its domestic need?
+fn imports_covered(n: usize, x: &[u64], final_demand: &[u64], imports: &[u64]) -> Answer
+    requires { ⌜ (n ≤ 40) × (length (now x) ≡ n * n) × (length (now «final_demand») ≡ n) × (length (now imports) ≡ n) ⌝ }
+    requires { ⌜ ((k : ℕ) → cell (now x) k ≤ amountLimit) ⌝ }
+    requires { ⌜ ((k : ℕ) → cell (now «final_demand») k ≤ amountLimit) ⌝ }
+    ensures { λ r. ⌜ report r ≡ verdict (importsCovered (tableOf n (now (x .entry)) (now («final_demand» .entry) ∷ [] ∷ now (imports .entry) ∷ [])) ∷ []) [] ⌝ }
+{
+    for i in 0..n {
+        let need = need_of(n, x, final_demand, i);
+        if need < imports[i] {
+            return Answer::Refused {
+                number: 6,
+                place: i,
+            };
+        }
+    }
+    Answer::Accepted
+}
+
+// Questions 4, 5 and 6.
+fn check_balances(
+    n: usize,
+    x: &[u64],
+    final_demand: &[u64],
+    exports: &[u64],
+    imports: &[u64],
+    value_added: &[u64],
+    production: &[u64],
+) -> Answer
+    requires { ⌜ TableSizes (tableOf n (now x) (now «final_demand» ∷ now exports ∷ now imports ∷ now «value_added» ∷ now production ∷ [])) ⌝ }
+    requires { ⌜ TableAmounts (tableOf n (now x) (now «final_demand» ∷ now exports ∷ now imports ∷ now «value_added» ∷ now production ∷ [])) ⌝ }
+    ensures { λ r. ⌜ report r ≡ verdict (balanceChecks (tableOf n (now (x .entry)) (now («final_demand» .entry) ∷ now (exports .entry) ∷ now (imports .entry) ∷ now («value_added» .entry) ∷ now (production .entry) ∷ []))) [] ⌝ }
+{
+    let columns = columns_balance(n, x, value_added, production);
+    if let Answer::Refused { number, place } = columns {
+        return Answer::Refused { number, place };
+    }
+    let rows = rows_balance(n, x, final_demand, exports, imports, production);
+    if let Answer::Refused { number, place } = rows {
+        return Answer::Refused { number, place };
+    }
+    imports_covered(n, x, final_demand, imports)
+}
+
+// Questions 3 to 6, of a table whose slices have their lengths.
+pub fn check_contents(
+    n: usize,
+    x: &[u64],
+    final_demand: &[u64],
+    exports: &[u64],
+    imports: &[u64],
+    value_added: &[u64],
+    production: &[u64],
+) -> Answer
+    requires { ⌜ TableSizes (tableOf n (now x) (now «final_demand» ∷ now exports ∷ now imports ∷ now «value_added» ∷ now production ∷ [])) ⌝ }
+    ensures { λ r. ⌜ (
+        let t = tableOf n (now (x .entry)) (now («final_demand» .entry) ∷ now (exports .entry) ∷ now (imports .entry) ∷ now («value_added» .entry) ∷ now (production .entry) ∷ []) in
+        report r ≡ verdict (tableAmounts t ++ balanceChecks t) []) ⌝ }
+{
+    let amounts = check_amounts(
+        n,
+        x,
+        final_demand,
+        exports,
+        imports,
+        value_added,
+        production,
+    );
+    if let Answer::Refused { number, place } = amounts {
+        return Answer::Refused { number, place };
+    }
+    check_balances(
+        n,
+        x,
+        final_demand,
+        exports,
+        imports,
+        value_added,
+        production,
+    )
+}
+
+// Questions 1 to 6. The lengths of the table's own slices are among those of the matrices and of the lent slices.
+pub fn check_table(
+    n: usize,
+    x: &[u64],
+    final_demand: &[u64],
+    exports: &[u64],
+    imports: &[u64],
+    value_added: &[u64],
+    production: &[u64],
+    matrices: &[usize],
+    lent: &[usize],
+) -> Answer
+    requires { ⌜ (Each (n * n) (now matrices) → length (now x) ≡ n * n) ⌝ }
+    requires { ⌜ (Each n (now lent) → Columns n (now «final_demand» ∷ now exports ∷ now imports ∷ now «value_added» ∷ now production ∷ [])) ⌝ }
+    ensures { λ r. ⌜ (
+        let t = tableOf n (now (x .entry)) (now («final_demand» .entry) ∷ now (exports .entry) ∷ now (imports .entry) ∷ now («value_added» .entry) ∷ now (production .entry) ∷ []) in
+        report r ≡ verdict (size n ∷ lengths n (now (matrices .entry)) (now (lent .entry)) ∷ tableAmounts t ++ balanceChecks t) []) ⌝ }
+{
+    let sizes = check_sizes(n, matrices, lent);
+    if let Answer::Refused { number, place } = sizes {
+        return Answer::Refused { number, place };
+    }
+    check_contents(
+        n,
+        x,
+        final_demand,
+        exports,
+        imports,
+        value_added,
+        production,
+    )
+}

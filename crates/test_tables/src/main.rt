@@ -1,0 +1,173 @@
+// Runs the call for sheets from a table on the worked table of document 01, its neighbours and a printed table of document 001, and prints each answer
+// with every output cell. Each slice that is lent holds 7 in every cell before the call.
+use coefficients::coefficients;
+use test_show::show_answer;
+use test_show::show_end;
+use test_show::show_first;
+use test_show::show_more;
+use test_show::show_word;
+
+// The five sheets of a table, parted by bars.
+fn show_sheets(a: &[u64], v: &[u64], m: &[u64], d: &[u64], f: &[u64]) {
+    show_first(a);
+    show_more(v);
+    show_more(m);
+    show_more(d);
+    show_more(f);
+    show_end();
+}
+
+// Sheets from a table of n sectors with slices for two: a, v, m, d and f.
+fn two_sectors(n: usize, x: &[u64], fin: &[u64], e: &[u64], m: &[u64], v: &[u64], p: &[u64]) {
+    let mut a = [7u64; 4];
+    let mut values = [7u64; 2];
+    let mut shares = [7u64; 2];
+    let mut d = [7u64; 4];
+    let mut f = [7u64; 2];
+    show_answer(coefficients(
+        n,
+        x,
+        fin,
+        e,
+        m,
+        v,
+        p,
+        &mut a,
+        &mut values,
+        &mut shares,
+        &mut d,
+        &mut f,
+    ));
+    show_sheets(&a, &values, &shares, &d, &f);
+}
+
+// The same of a table of three sectors, with slices for three.
+fn three_sectors(x: &[u64], fin: &[u64], e: &[u64], m: &[u64], v: &[u64], p: &[u64]) {
+    let mut a = [7u64; 9];
+    let mut values = [7u64; 3];
+    let mut shares = [7u64; 3];
+    let mut d = [7u64; 9];
+    let mut f = [7u64; 3];
+    show_answer(coefficients(
+        3,
+        x,
+        fin,
+        e,
+        m,
+        v,
+        p,
+        &mut a,
+        &mut values,
+        &mut shares,
+        &mut d,
+        &mut f,
+    ));
+    show_sheets(&a, &values, &shares, &d, &f);
+}
+
+// Cuts the columns, one after the other, two amounts each; the exports are as many as are left.
+fn cut(n: usize, x: &[u64], columns: &[u64]) {
+    if columns.len() < 8 {
+        return;
+    }
+    let end = columns.len() - 6;
+    two_sectors(
+        n,
+        x,
+        &columns[0..2],
+        &columns[2..end],
+        &columns[end..end + 2],
+        &columns[end + 2..end + 4],
+        &columns[end + 4..],
+    );
+}
+
+// The flows row by row, and final demand, exports, imports, value added and production.
+fn sheets(name: &[u8], n: usize, x: [u64; 4], columns: [u64; 10]) {
+    show_word(name);
+    cut(n, &x, &columns);
+}
+
+// The worked table with another cell of x.
+fn with_flow(name: &[u8], flow: u64) {
+    sheets(
+        name,
+        2,
+        [100, 400, 300, flow],
+        [500, 900, 250, 560, 250, 360, 600, 1000, 1000, 2000],
+    );
+}
+
+// The worked table with other columns.
+fn with_columns(name: &[u8], columns: [u64; 10]) {
+    sheets(name, 2, [100, 400, 300, 600], columns);
+}
+
+fn flows() {
+    with_flow(b"P1", 600);
+    with_flow(b"flow over", 1000000001);
+    with_flow(b"flow that would wrap", 18446744073709551615);
+    with_flow(b"column off", 601);
+}
+
+fn columns() {
+    with_columns(
+        b"demand over",
+        [1000000001, 900, 250, 560, 250, 360, 600, 1000, 1000, 2000],
+    );
+    with_columns(
+        b"production over",
+        [500, 900, 250, 560, 250, 360, 600, 1000, 1000, 1000000001],
+    );
+    with_columns(
+        b"row off",
+        [500, 900, 250, 561, 250, 360, 600, 1000, 1000, 2000],
+    );
+    with_columns(
+        b"imports over need",
+        [0, 0, 1501, 1561, 1001, 461, 600, 1000, 1000, 2000],
+    );
+}
+
+fn more_tables() {
+    sheets(
+        b"column sum over",
+        2,
+        [960, 0, 0, 0],
+        [40, 5, 0, 0, 0, 0, 40, 5, 1000, 5],
+    );
+    sheets(b"all zero", 2, [0; 4], [0; 10]);
+    sheets(
+        b"bought by nobody",
+        2,
+        [0, 5, 0, 0],
+        [0, 0, 0, 0, 0, 0, 5, 0, 5, 0],
+    );
+    sheets(b"no sectors", 0, [0; 4], [0; 10]);
+}
+
+fn exports_short() {
+    show_word(b"exports short");
+    cut(2, &[0; 4], &[0; 9]);
+}
+
+// Table 3-1 of document 001, in units of 100 million yen: amounts that were rounded one by one, so that the third column misses by one.
+fn printed_table() {
+    show_word(b"Miyazaki as printed");
+    three_sectors(
+        &[492, 2109, 104, 1069, 5744, 3998, 709, 4260, 9426],
+        &[621, 11809, 29094],
+        &[1753, 11767, 1931],
+        &[1088, 15778, 4317],
+        &[1720, 6531, 27576],
+        &[3990, 18644, 41103],
+    );
+}
+
+fn main() {
+    flows();
+    columns();
+    more_tables();
+    exports_short();
+    printed_table();
+}

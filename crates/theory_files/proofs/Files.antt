@@ -1,0 +1,71 @@
+-- A file written from named cells is read back as those cells, the last one first. Assumes nothing.
+use mathlib.Core.Bool.{Bool, true, false}
+use mathlib.Core.List.{List, [], _∷_, _++_, reverse, reverseAux, append-assoc}
+use mathlib.Core.Path.{_≡_, refl, sym, ap, ap₂, _∙_}
+use Prim.Native.Nat.{ℕ, zero, suc, _+_, _≤_, _<_}
+use native.Mathlib.Nat.{not-suc-le-zero, zero-lt-suc, le-refl}
+use native.Mathlib.Omega.{arith}
+use borrow.Author.Tests.{lt-leb, le-leb, eq-eqb, ne-eqb}
+use lib.Dec.{ltb}
+use lib.ListN.{length, length-append}
+use Rattle.model.specs.Numbers.{cell}
+use Rattle.model.specs.File.{Entry, encode, encodeAll, fileOf, wholeAt, Reading, walk, reading}
+use Rattle.theory_files.specs.Files.{Fresh}
+use Rattle.theory_files.proofs.Encoding.{stands, step}
+
+kind-last : (before : List ℕ) (b : ℕ) → cell (before ++ (b ∷ [])) (length before) ≡ b
+kind-last [] b = refl
+kind-last (_ ∷ before) b = kind-last before b
+
+-- at the end
+walk-end : (n : ℕ) (es : List Entry) (before : List ℕ) (fuel : ℕ) → walk (suc fuel) (before ++ (8 ∷ [])) n es (length before) ≡ Reading.table n es
+unfolding walk wholeAt
+walk-end n es before fuel =
+    let at = length before in
+    rw (kind-last before 8, length-append before (8 ∷ []), lt-leb (at + 1) at (omega arith), le-leb (at + 1) (at + 1) (le-refl (at + 1)), eq-eqb (at + 1) (at + 1) refl)
+    refl
+
+-- over the cells to come
+walk-on : (n : ℕ) (es later : List Entry) (before : List ℕ) (fuel : ℕ) → length later < fuel → Fresh n es later
+    → walk fuel (before ++ (encodeAll later ++ (8 ∷ []))) n es (length before) ≡ Reading.table n (reverseAux later es)
+walk-on n es later before zero h f = absurd (not-suc-le-zero h)
+walk-on n es [] before (suc fuel) h f = walk-end n es before fuel
+walk-on n es (e ∷ later) before (suc fuel) h f =
+    let rest = encodeAll later ++ (8 ∷ []) in
+    let here = step n (before ++ (encode e ++ rest)) (length before) e (length (encode e)) fuel es (stands n e (f .0) before rest) in
+    let there = walk-on n (e ∷ es) later (before ++ encode e) fuel (omega arith) (f .2) in
+    ap (λ (s : List ℕ). walk (suc fuel) (before ++ s) n es (length before)) (append-assoc (encode e) (encodeAll later) (8 ∷ []))
+    ∙ here
+    ∙ rw (f .1) (ap₂ (λ (s : List ℕ) (at : ℕ). walk fuel s n (e ∷ es) at) (sym (append-assoc before (encode e) rest)) (sym (length-append before (encode e))))
+    ∙ there
+
+-- a record has a byte, so the file's length is steps enough
+encode-long : (e : Entry) → 1 ≤ length (encode e)
+unfolding encode
+encode-long e = go (ltb (e .line) 40) refl
+  where
+    go : (b : Bool) → ltb (e .line) 40 ≡ b → 1 ≤ length (encode e)
+    go true h = rw h (zero-lt-suc 6)
+    go false h = rw h (zero-lt-suc 5)
+
+bytes-enough : (es : List Entry) → length es ≤ length (encodeAll es)
+bytes-enough [] = le-refl 0
+bytes-enough (e ∷ es) =
+    let long = encode-long e in
+    let more = bytes-enough es in
+    let parts = length-append (encode e) (encodeAll es) in
+    omega arith
+
+-- What a writer of files has to know
+pub read-back : (n : ℕ) (es : List Entry) → 1 ≤ n → n ≤ 40 → Fresh n [] es → reading (fileOf n es) ≡ Reading.table n (reverse es)
+unfolding reading fileOf wholeAt
+read-back n es some most f =
+    let body = encodeAll es ++ (8 ∷ []) in
+    let bytes = length body in
+    let enough : length es < suc (suc bytes) =
+    let parts = length-append (encodeAll es) (8 ∷ []) in
+    let more = bytes-enough es in
+    omega arith
+    in
+    rw (ne-eqb (suc (suc bytes)) 0 (λ e. omega arith), le-leb 1 n some, le-leb n 40 most, le-leb 2 (suc (suc bytes)) (omega arith))
+    (walk-on n [] es (1 ∷ n ∷ []) (suc (suc bytes)) enough f)

@@ -1,0 +1,229 @@
+-- No accepted file exceeds 12,643 bytes: each record names a cell of its own. Assumes nothing.
+use mathlib.Core.Bool.{Bool, true, false, _&&_, _||_, cond, false≢true}
+use mathlib.Core.List.{List, [], _∷_}
+use mathlib.Core.Path.{_≡_, refl, sym, ap, subst, _∙_}
+use Prim.Native.Nat.{ℕ, zero, suc, _+_, _*_, _-_, _≤_, _<_}
+use native.Mathlib.Nat.{not-suc-le-zero, le-refl, mul-le-mul-left, mul-add, mul-one}
+use native.Mathlib.Omega.{arith}
+use borrow.Author.Tests.{ltb-true, ltb-false, lt-ltb, le-ltb, leb-true, eqb-true, eq-eqb, ne-eqb}
+use lib.Dec.{eqb, leb, ltb}
+use lib.ListN.{length, List·getD-eq-default}
+use Rattle.model.specs.Numbers.{sum, cell}
+use Rattle.model.specs.File.{Entry, recordLengths, columnLines, kindAt, isFlow, nextAt, wholeAt, insideAt, entryAt, named, Reading, walk, reading}
+use Rattle.theory.proofs.Sums.{sum-mono}
+use Rattle.theory.proofs.Lists.{first-before, and-true}
+
+-- a sum with one larger cell
+sum-lift : (n : ℕ) {f g : ℕ → ℕ} (i d : ℕ) → i < n → ((k : ℕ) → k < n → f k ≤ g k) → f i + d ≤ g i → sum n f + d ≤ sum n g
+sum-lift zero i d h le at-i = absurd (not-suc-le-zero h)
+sum-lift (suc n) {f} {g} i d h le at-i = go (ltb i n) refl (λ l. sum-lift n {f = f} {g = g} i d l (λ k lt. le k (omega arith)) at-i)
+  where
+    go : (b : Bool) → ltb i n ≡ b → (i < n → sum n f + d ≤ sum n g) → sum n f + f n + d ≤ sum n g + g n
+    go true e before =
+        let lower = before (ltb-true i n e) in
+        let here = le n (omega arith) in
+        omega arith
+    go false e before =
+        let low = ltb-false i n e in
+        let same : i ≡ n = omega arith in
+        let lower = sum-mono n {f = f} {g = g} (λ k lt. le k (omega arith)) in
+        let here : f n + d ≤ g n = subst (λ (k : ℕ). f k + d ≤ g k) same at-i in
+        omega arith
+
+-- ---- the bytes that the named cells take
+abbrev pub bit : Bool → ℕ
+bit true = 1
+bit false = 0
+
+abbrev pub place : ℕ → ℕ → Entry
+place l p = record { line = l; position = p; amount = 0 }
+
+abbrev is : Entry → ℕ → ℕ → Bool
+is e l p = eqb (e .line) l && eqb (e .position) p
+
+abbrev pub lineBytes : ℕ → ℕ
+lineBytes l = cond (ltb l 40) 7 6
+
+abbrev pub count : List Entry → ℕ → ℕ
+count es l = sum 40 (λ p. bit (named es (place l p)))
+
+pub weight : List Entry → ℕ
+weight es = sum 46 (λ l. lineBytes l * count es l)
+
+bit-most : (b : Bool) → bit b ≤ 1
+bit-most true = le-refl 1
+bit-most false = omega arith
+
+count-most : (es : List Entry) (l : ℕ) → count es l ≤ sum 40 (λ _. 1)
+count-most es l = sum-mono 40 (λ p _. bit-most (named es (place l p)))
+
+pub weight-most : (es : List Entry) → weight es ≤ sum 46 (λ l. lineBytes l * 40)
+unfolding weight
+weight-most es = sum-mono 46 (λ l _. mul-le-mul-left (lineBytes l) (count-most es l))
+
+bit-or : (a b : Bool) → bit b ≤ bit (a || b)
+bit-or true b = bit-most b
+bit-or false b = le-refl (bit b)
+
+count-mono : (e : Entry) (es : List Entry) (l : ℕ) → count es l ≤ count (e ∷ es) l
+count-mono e es l = sum-mono 40 (λ p _. bit-or (is e l p) (named es (place l p)))
+
+named-place : (es : List Entry) (e : Entry) → named es (place (e .line) (e .position)) ≡ named es e
+named-place [] e = refl
+named-place (f ∷ es) e = ap (λ (b : Bool). eqb (f .line) (e .line) && eqb (f .position) (e .position) || b) (named-place es e)
+
+or-true : (a b : Bool) → a ≡ true → bit (a || b) ≡ 1
+or-true true b e = refl
+or-true false b e = absurd (false≢true e)
+
+-- a cell that was not named adds its bytes
+count-more : (e : Entry) (es : List Entry) → named es e ≡ false → e .position < 40 → count es (e .line) + 1 ≤ count (e ∷ es) (e .line)
+count-more e es fresh h =
+    let itself : is e (e .line) (e .position) ≡ true =
+    rw (eq-eqb (e .line) (e .line) refl, eq-eqb (e .position) (e .position) refl) refl
+    in
+    let before : bit (named es (place (e .line) (e .position))) ≡ 0 = ap bit (named-place es e ∙ fresh) in
+    let after = or-true (is e (e .line) (e .position)) (named es (place (e .line) (e .position))) itself in
+    sum-lift 40 (e .position) 1 h (λ p _. bit-or (is e (e .line) p) (named es (place (e .line) p))) (omega arith)
+
+weight-more : (e : Entry) (es : List Entry) → named es e ≡ false → e .line < 46 → e .position < 40 → weight es + lineBytes (e .line) ≤ weight (e ∷ es)
+unfolding weight
+weight-more e es fresh hl hp =
+    let b = lineBytes (e .line) in
+    let one-more : b * (count es (e .line) + 1) ≤ b * count (e ∷ es) (e .line) = mul-le-mul-left b (count-more e es fresh hp) in
+    let split : b * (count es (e .line) + 1) ≡ b * count es (e .line) + b = mul-add b (count es (e .line)) 1 ∙ ap (λ (x : ℕ). b * count es (e .line) + x) (mul-one b) in
+    sum-lift 46 (e .line) b hl (λ l _. mul-le-mul-left (lineBytes l) (count-mono e es l))
+    (subst (λ (x : ℕ). x ≤ b * count (e ∷ es) (e .line)) split one-more)
+
+-- ---- what the reader has seen of a record when it takes it
+abbrev accepted : Reading → Bool
+accepted (Reading.refused q p) = false
+accepted (Reading.table n es) = true
+
+through : (b : Bool) (x : Reading) (q p : ℕ) → accepted (cond b x (Reading.refused q p)) ≡ true → (b ≡ true) × (accepted x ≡ true)
+through true x q p e = (refl, e)
+through false x q p e = absurd (false≢true e)
+
+barred : (b : Bool) (x : Reading) (q p : ℕ) → accepted (cond b (Reading.refused q p) x) ≡ true → (b ≡ false) × (accepted x ≡ true)
+barred true x q p e = absurd (false≢true e)
+barred false x q p e = (refl, e)
+
+-- a kind with a body, other than 1, 2 and 8, is a column's
+abbrev columnKind : ℕ → Bool
+columnKind k = eqb (cell recordLengths k) 6 && (leb 40 (cell columnLines k) && ltb (cell columnLines k) 46)
+
+abbrev other : ℕ → Bool
+other k = eqb (cell recordLengths k) 0 || (eqb k 1 || (eqb k 2 || eqb k 8))
+
+or-false : (a b : Bool) → a ≡ false → a || b ≡ true → b ≡ true
+or-false a b e t = sym (ap (λ (x : Bool). x || b) e) ∙ t
+
+kinds : (k : ℕ) → k < 10 → other k || columnKind k ≡ true
+kinds k h = first-before 10 (λ i. other i || columnKind i) k h
+
+pub no-kind : (k : ℕ) → 10 ≤ k → cell recordLengths k ≡ 0
+no-kind k h = List·getD-eq-default recordLengths 0 h
+
+column-kind : (k : ℕ) → leb 1 (cell recordLengths k) ≡ true → eqb k 1 ≡ false → eqb k 2 ≡ false → eqb k 8 ≡ false → columnKind k ≡ true
+column-kind k body no-1 no-2 no-8 = go (ltb k 10) refl
+  where
+    some : 1 ≤ cell recordLengths k
+    some = leb-true 1 (cell recordLengths k) body
+
+    none : eqb (cell recordLengths k) 0 ≡ false
+    none = ne-eqb (cell recordLengths k) 0 (λ e. omega (arith, some))
+
+    others : other k ≡ false
+    others = rw (none, no-1, no-2, no-8) refl
+
+    go : (b : Bool) → ltb k 10 ≡ b → columnKind k ≡ true
+    go true e = or-false (other k) (columnKind k) others (kinds k (ltb-true k 10 e))
+    go false e =
+        let zero-body = no-kind k (ltb-false k 10 e) in
+        let more = some in
+        absurd (omega arith)
+
+pub record Taken (s : List ℕ) (at : ℕ) : Type 0 where
+  pub bytes : lineBytes (entryAt s at .line) ≡ cell recordLengths (kindAt s at)
+  pub line-low : entryAt s at .line < 46
+  pub position-low : entryAt s at .position < 40
+
+-- a sector byte from 1 to n, less 1, is a sector below 40
+sector-low : (n b : ℕ) → n ≤ 40 → leb 1 b && leb b n ≡ true → b - 1 < 40
+sector-low n b most e =
+    let parts = and-true (leb 1 b) (leb b n) e in
+    let low = leb-true 1 b (parts .0) in
+    let high = leb-true b n (parts .1) in
+    omega arith
+
+below-46 : (i : ℕ) → i < 40 → i < 46
+below-46 i h = omega arith
+
+pub taken : (s : List ℕ) (at n : ℕ) → n ≤ 40 → wholeAt s at ≡ true → eqb (kindAt s at) 1 ≡ false → eqb (kindAt s at) 8 ≡ false → insideAt s at n ≡ true → Taken s at
+unfolding wholeAt insideAt entryAt
+taken s at n most whole no-1 no-8 inside = go (isFlow s at) refl
+  where
+    parts : (leb 1 (cell s (at + 1)) && leb (cell s (at + 1)) n ≡ true) × (cond (isFlow s at) (leb 1 (cell s (at + 2)) && leb (cell s (at + 2)) n) true ≡ true)
+    parts = and-true _ _ inside
+
+    first-low : cell s (at + 1) - 1 < 40
+    first-low = sector-low n (cell s (at + 1)) most (parts .0)
+
+    go : (b : Bool) → isFlow s at ≡ b → Taken s at
+    go true e =
+        let second-low = sector-low n (cell s (at + 2)) most (rw e at (parts .1)) in
+        record {
+          bytes = rw (e, lt-ltb (cell s (at + 1) - 1) 40 first-low, eqb-true (kindAt s at) 2 e) refl;
+          line-low = rw e (below-46 _ first-low);
+          position-low = rw e second-low;
+        }
+    go false e =
+        let body = and-true (leb 1 (cell recordLengths (kindAt s at))) _ whole .0 in
+        let column = and-true _ _ (column-kind (kindAt s at) body no-1 e no-8) in
+        let lines = and-true _ _ (column .1) in
+        let low = leb-true 40 (cell columnLines (kindAt s at)) (lines .0) in
+        record {
+          bytes = rw (e, le-ltb (cell columnLines (kindAt s at)) 40 low) (sym (eqb-true _ _ (column .0)));
+          line-low = rw e (ltb-true _ _ (lines .1));
+          position-low = rw e first-low;
+        }
+
+-- ---- the walk: its offset is at most the bytes of the cells named so far, and 2
+either : {R : Type 0} (b : Bool) (x y : Reading) → accepted (cond b x y) ≡ true → (accepted x ≡ true → R) → (b ≡ false → accepted y ≡ true → R) → R
+either true x y e p q = p e
+either false x y e p q = q refl e
+
+pub offset-on : (s : List ℕ) (es : List Entry) (at : ℕ) → Taken s at → named es (entryAt s at) ≡ false → at ≤ 2 + weight es → nextAt s at ≤ 2 + weight (entryAt s at ∷ es)
+offset-on s es at t fresh h =
+    let more = weight-more (entryAt s at) es fresh (t .line-low) (t .position-low) in
+    let same = t .bytes in
+    omega arith
+
+walk-length : (fuel : ℕ) (s : List ℕ) (n : ℕ) (es : List Entry) (at : ℕ) → n ≤ 40 → at ≤ 2 + weight es → accepted (walk fuel s n es at) ≡ true → length s ≤ 12643
+unfolding walk
+walk-length zero s n es at most h e = absurd (false≢true e)
+walk-length (suc fuel) s n es at most h e =
+    let within = barred (leb (length s) at) _ 15 (length s) e in
+    let whole = through (wholeAt s at) _ 11 at (within .1) in
+    let later = barred (eqb (kindAt s at) 1) _ 12 at (whole .1) in
+    either (eqb (kindAt s at) 8) _ _ (later .1)
+    (λ ended.
+    let last = eqb-true (at + 1) (length s) (through (eqb (at + 1) (length s)) _ 15 (at + 1) ended .0) in
+    let limit = weight-most es in
+    omega (arith, last, limit, h))
+    (λ going on.
+    let inside = through (insideAt s at n) _ 13 at on in
+    let fresh = barred (named es (entryAt s at)) _ 14 at (inside .1) in
+    let t = taken s at n most (whole .0) (later .0) going (inside .0) in
+    walk-length fuel s n (entryAt s at ∷ es) (nextAt s at) most (offset-on s es at t (fresh .0) h) (fresh .1))
+
+-- "No accepted file exceeds 12,643 bytes"
+pub accepted-length : (s : List ℕ) (n : ℕ) (es : List Entry) → reading s ≡ Reading.table n es → length s ≤ 12643
+unfolding reading
+accepted-length s n es e =
+    let some = barred (eqb (length s) 0) _ 15 0 (ap accepted e) in
+    let whole = through (wholeAt s 0) _ 11 0 (some .1) in
+    let sized = through (eqb (kindAt s 0) 1 && (leb 1 (cell s 1) && leb (cell s 1) 40)) _ 12 0 (whole .1) in
+    let range = leb 1 (cell s 1) && leb (cell s 1) 40 in
+    let size = and-true (leb 1 (cell s 1)) (leb (cell s 1) 40) (and-true (eqb (kindAt s 0) 1) range (sized .0) .1) in
+    walk-length (length s) s (cell s 1) [] 2 (leb-true (cell s 1) 40 (size .1)) (omega arith) (sized .1)

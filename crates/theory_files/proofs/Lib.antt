@@ -1,0 +1,6 @@
+-- Table files: what was written is read back, the longest file, inputs that agree in their first bytes, and what a reading may be.
+pub mod Encoding
+pub mod Files
+pub mod Lengths
+pub mod Prefixes
+pub mod Readings

@@ -1,0 +1,120 @@
+-- A longer input is answered as its first 12,649 bytes are: the walk never gets further. Assumes nothing.
+use mathlib.Core.Bool.{Bool, true, false, _&&_, cond}
+use mathlib.Core.List.{List, [], _∷_}
+use mathlib.Core.Path.{_≡_, refl, ap}
+use Prim.Native.Nat.{ℕ, zero, suc, _+_, _≤_, _<_}
+use native.Mathlib.Nat.{not-suc-le-zero, le-of-suc-le-suc}
+use native.Mathlib.Omega.{arith}
+use borrow.Author.Tests.{lt-leb, le-leb, leb-true, ltb-true, ltb-false, ne-eqb}
+use lib.Dec.{eqb, leb, ltb}
+use lib.ListN.{length, take}
+use lib.Seq.{length-take-le}
+use Rattle.model.specs.Numbers.{cell}
+use Rattle.model.specs.File.{Entry, recordLengths, amountFrom, kindAt, nextAt, wholeAt, insideAt, entryAt, named, Reading, walk, reading}
+use Rattle.model.specs.Page.{readingPage, page}
+use Rattle.theory.proofs.Lists.{first-before, and-true}
+use Rattle.theory_files.proofs.Lengths.{no-kind, weight, weight-most, taken, offset-on}
+
+cell-take : (k : ℕ) (s : List ℕ) (i : ℕ) → i < k → cell (take k s) i ≡ cell s i
+cell-take zero s i h = absurd (not-suc-le-zero h)
+cell-take (suc k) [] i h = refl
+cell-take (suc k) (b ∷ s) zero h = refl
+cell-take (suc k) (b ∷ s) (suc i) h = cell-take k s i (le-of-suc-le-suc h)
+
+record-most : (k : ℕ) → cell recordLengths k ≤ 7
+record-most k = go (ltb k 10) refl
+  where
+    go : (b : Bool) → ltb k 10 ≡ b → cell recordLengths k ≤ 7
+    go true e = leb-true _ _ (first-before 10 (λ i. leb (cell recordLengths i) 7) k (ltb-true k 10 e))
+    go false e = rw (no-kind k (ltb-false k 10 e)) (omega arith)
+
+-- a choice whose one side is the same wherever it is taken
+cond-then : (b : Bool) (x y z : Reading) → (b ≡ true → x ≡ y) → cond b x z ≡ cond b y z
+cond-then true x y z e = e refl
+cond-then false x y z e = refl
+
+cond-else : (b : Bool) (x y z : Reading) → (b ≡ false → x ≡ y) → cond b z x ≡ cond b z y
+cond-else true x y z e = refl
+cond-else false x y z e = e refl
+
+-- two inputs that agree below 12,649, and are at least as long
+module _ (s t : List ℕ) (same : (i : ℕ) → i < 12649 → cell t i ≡ cell s i) (long : 12649 ≤ length s) (long′ : 12649 ≤ length t) where
+  amount-same : (k : ℕ) → k < 12646 → amountFrom t k ≡ amountFrom s k
+  unfolding amountFrom
+  amount-same k h = rw (same k (omega arith), same (k + 1) (omega arith), same (k + 2) (omega arith), same (k + 3) (omega arith)) refl
+
+  module _ (at : ℕ) (low : at ≤ 12642) where
+    inside-same : (n : ℕ) → insideAt t at n ≡ insideAt s at n
+    unfolding insideAt
+    inside-same n = rw (same at (omega arith), same (at + 1) (omega arith), same (at + 2) (omega arith)) refl
+
+    entry-same : entryAt t at ≡ entryAt s at
+    unfolding entryAt
+    entry-same =
+        rw (amount-same (at + 3) (omega arith), amount-same (at + 2) (omega arith), same at (omega arith), same (at + 1) (omega arith), same (at + 2) (omega arith)) refl
+
+    -- a record has at most 7 bytes, so it is whole in both or in neither
+    room : (u : List ℕ) → 12649 ≤ length u → leb (at + cell recordLengths (kindAt s at)) (length u) ≡ true
+    room u h = le-leb (at + cell recordLengths (kindAt s at)) (length u) (let most = record-most (kindAt s at) in omega arith)
+
+    whole-same : wholeAt t at ≡ wholeAt s at
+    unfolding wholeAt
+    whole-same = rw (same at (omega arith), room t long′, room s long) refl
+
+  body-some : (at : ℕ) → wholeAt s at ≡ true → 1 ≤ cell recordLengths (kindAt s at)
+  unfolding wholeAt
+  body-some at e = leb-true _ _ (and-true (leb 1 (cell recordLengths (kindAt s at))) _ e .0)
+
+  walk-same : (fuel fuel′ n : ℕ) (es : List Entry) (at : ℕ) → n ≤ 40 → at ≤ 2 + weight es → 12643 ≤ fuel + at → 12643 ≤ fuel′ + at
+      → walk fuel t n es at ≡ walk fuel′ s n es at
+  unfolding walk
+  walk-same zero fuel′ n es at most h f f′ = absurd (let limit = weight-most es in omega arith)
+  walk-same (suc fuel) zero n es at most h f f′ = absurd (let limit = weight-most es in omega arith)
+  walk-same (suc fuel) (suc fuel′) n es at most h f f′ =
+      let limit = weight-most es in
+      let low : at ≤ 12642 = omega arith in
+      rw (
+        whole-same at low,
+        inside-same at low n,
+        entry-same at low,
+        same at (omega arith),
+        lt-leb (length t) at (omega arith),
+        lt-leb (length s) at (omega arith),
+        ne-eqb (at + 1) (length t) (λ e. omega arith),
+        ne-eqb (at + 1) (length s) (λ e. omega arith),
+      )
+      (cond-then (wholeAt s at) _ _ _ (λ whole.
+      cond-else (eqb (kindAt s at) 1) _ _ _ (λ no-1.
+      cond-else (eqb (kindAt s at) 8) _ _ _ (λ no-8.
+      cond-then (insideAt s at n) _ _ _ (λ inside.
+      cond-else (named es (entryAt s at)) _ _ _ (λ fresh.
+      let here = taken s at n most whole no-1 no-8 inside in
+      let some = body-some at whole in
+      walk-same fuel fuel′ n (entryAt s at ∷ es) (nextAt s at) most (offset-on s es at here fresh h) (omega arith) (omega arith)))))))
+
+  pub reading-same : reading t ≡ reading s
+  unfolding reading
+  reading-same =
+      let n = cell s 1 in
+      let range = leb 1 n && leb n 40 in
+      rw (
+        whole-same 0 (omega arith),
+        same 0 (omega arith),
+        same 1 (omega arith),
+        ne-eqb (length t) 0 (λ e. omega arith),
+        ne-eqb (length s) 0 (λ e. omega arith),
+      )
+      (cond-then (wholeAt s 0) _ _ _ (λ whole.
+      cond-then (eqb (kindAt s 0) 1 && range) _ _ _ (λ sized.
+      let size = and-true (leb 1 n) (leb n 40) (and-true (eqb (kindAt s 0) 1) range sized .1) in
+      walk-same (length t) (length s) n [] 2 (leb-true n 40 (size .1)) (omega arith) (omega arith) (omega arith))))
+
+-- A program that reads its input into 12,649 bytes or more answers as if it had read everything
+pub prefix-answers : (k : ℕ) (s : List ℕ) → 12649 ≤ k → k ≤ length s → reading (take k s) ≡ reading s
+prefix-answers k s enough h =
+    let size = length-take-le k s h in
+    reading-same s (take k s) (λ i low. cell-take k s i (omega arith)) (omega arith) (omega arith)
+
+pub prefix-prints : (k : ℕ) (s : List ℕ) → 12649 ≤ k → k ≤ length s → page (take k s) ≡ page s
+unfolding page
+prefix-prints k s enough h = ap readingPage (prefix-answers k s enough h)

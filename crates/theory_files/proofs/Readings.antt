@@ -1,0 +1,78 @@
+-- What a reading may be: a refusal with a number up to 15 and a place up to 12,649, or 1 to 40 sectors. Assumes nothing.
+use mathlib.Core.Bool.{Bool, true, false, _&&_, cond}
+use mathlib.Core.List.{List, [], _∷_}
+use mathlib.Core.Path.{_≡_, refl, subst}
+use Prim.Native.Nat.{ℕ, zero, suc, _+_, _≤_}
+use native.Mathlib.Nat.{le-refl}
+use native.Mathlib.Omega.{arith}
+use borrow.Author.Tests.{leb-false, leb-true, ltb-true, ltb-false}
+use lib.Dec.{eqb, leb, ltb, lit≤}
+use lib.ListN.{length, take}
+use lib.Seq.{length-take-le}
+use Rattle.model.specs.Numbers.{cell}
+use Rattle.model.specs.File.{Entry, kindAt, nextAt, wholeAt, insideAt, entryAt, named, Reading, walk, reading}
+use Rattle.theory.proofs.Lists.{and-true}
+use Rattle.theory_files.proofs.Prefixes.{prefix-answers}
+
+-- with places up to `most`
+abbrev pub Answered : ℕ → Reading → Type 0
+Answered most (Reading.refused number place) = (number ≤ 15) × (place ≤ most)
+Answered most (Reading.table n es) = (1 ≤ n) × (n ≤ 40)
+
+-- with places in the file: a test that refuses where it passes, and one that refuses where it fails
+unless : (len : ℕ) (b : Bool) (x : Reading) (number place : ℕ) → (number ≤ 15) × (place ≤ len) → (b ≡ false → Answered len x)
+    → Answered len (cond b (Reading.refused number place) x)
+unless len true x number place r go = r
+unless len false x number place r go = go refl
+
+provided : (len : ℕ) (b : Bool) (x : Reading) (number place : ℕ) → (number ≤ 15) × (place ≤ len) → (b ≡ true → Answered len x)
+    → Answered len (cond b x (Reading.refused number place))
+provided len true x number place r go = go refl
+provided len false x number place r go = r
+
+either : (len : ℕ) (b : Bool) (x y : Reading) → Answered len x → Answered len y → Answered len (cond b x y)
+either len true x y p q = p
+either len false x y p q = q
+
+walk-answered : (fuel : ℕ) (s : List ℕ) (n : ℕ) (es : List Entry) (at : ℕ) → 1 ≤ n → n ≤ 40 → Answered (length s) (walk fuel s n es at)
+unfolding walk
+walk-answered zero s n es at some few = (le-refl 15, le-refl (length s))
+walk-answered (suc fuel) s n es at some few =
+    let len = length s in
+    unless len (leb len at) _ 15 len (le-refl 15, le-refl len) (λ on.
+    let low = leb-false len at on in
+    provided len (wholeAt s at) _ 11 at (lit≤ tt, omega arith) (λ whole.
+    unless len (eqb (kindAt s at) 1) _ 12 at (lit≤ tt, omega arith) (λ later.
+    either len (eqb (kindAt s at) 8) _ _
+    (provided len (eqb (at + 1) len) (Reading.table n es) 15 (at + 1) (le-refl 15, omega arith) (λ last. (some, few)))
+    (provided len (insideAt s at n) _ 13 at (lit≤ tt, omega arith) (λ inside.
+    unless len (named es (entryAt s at)) _ 14 at (lit≤ tt, omega arith) (λ fresh.
+    walk-answered fuel s n (entryAt s at ∷ es) (nextAt s at) some few))))))
+
+whole-answered : (s : List ℕ) → Answered (length s) (reading s)
+unfolding reading
+whole-answered s =
+    let len = length s in
+    let n = cell s 1 in
+    let range = leb 1 n && leb n 40 in
+    unless len (eqb len 0) _ 15 0 (le-refl 15, omega arith) (λ some.
+    provided len (wholeAt s 0) _ 11 0 (lit≤ tt, omega arith) (λ whole.
+    provided len (eqb (kindAt s 0) 1 && range) _ 12 0 (lit≤ tt, omega arith) (λ sized.
+    let size = and-true (leb 1 n) (leb n 40) (and-true (eqb (kindAt s 0) 1) range sized .1) in
+    walk-answered len s n [] 2 (leb-true 1 n (size .0)) (leb-true n 40 (size .1)))))
+
+answered-more : (a b : ℕ) (r : Reading) → a ≤ b → Answered a r → Answered b r
+answered-more a b (Reading.refused number place) h p = (p .0, omega (arith, p .1))
+answered-more a b (Reading.table n es) h p = p
+
+-- a longer file is answered as its first 12,649 bytes are
+pub reading-answered : (s : List ℕ) → Answered 12649 (reading s)
+reading-answered s = split (ltb (length s) 12649) refl
+  where
+    split : (b : Bool) → ltb (length s) 12649 ≡ b → Answered 12649 (reading s)
+    split true e = answered-more (length s) 12649 (reading s) (omega (arith, ltb-true (length s) 12649 e)) (whole-answered s)
+    split false e =
+        let long = ltb-false (length s) 12649 e in
+        let start = take 12649 s in
+        subst (Answered 12649) (prefix-answers 12649 s (le-refl 12649) long)
+        (answered-more (length start) 12649 (reading start) (omega (arith, length-take-le 12649 s long)) (whole-answered start))

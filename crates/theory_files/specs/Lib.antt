@@ -1,0 +1,2 @@
+-- What contracts of the reader's functions cite beside the definitions of `model`.
+pub mod Files

@@ -1,0 +1,274 @@
+-- No page is longer than 2,851 bytes, whatever the input. Assumes nothing.
+use mathlib.Core.Bool.{Bool, true, false, cond}
+use mathlib.Core.List.{List, [], _∷_, _++_, map, append-assoc}
+use mathlib.Core.Path.{_≡_, refl, sym, ap, _∙_}
+use Prim.Native.Nat.{ℕ, zero, suc, _+_, _*_, _-_, _^_, _≤_, _<_, suc-le-suc}
+use native.Mathlib.Nat.{zero-lt-suc, not-suc-le-zero, le-step, lt-suc-self, lt-of-lt-of-le, mul-le-mul}
+use native.Mathlib.Omega.{arith}
+use borrow.Author.Tests.{ltb-true, ltb-false, leb-true, ne-eqb}
+use lib.Dec.{ltb, lit≤, lit<}
+use lib.ListN.{length, drop, replicate, length-append, length-replicate}
+use lib.Seq.{sets, sets-eq}
+use Rattle.model.specs.Numbers.{first, cell, at}
+use Rattle.model.specs.Table.{Table, finalDemand, portion}
+use Rattle.model.specs.Rounds.{settling, intermediate, inducedValueAdded, inducedImports}
+use Rattle.model.specs.Checks.{Report, accepts, roundsOf, Check, verdict, refuses, size, lengths, bounded, counted, amountLimit, balanceChecks, columnSums, single, settles, demandLimit}
+use Rattle.model.specs.Calls.{coefficientsReport, inputCoefficients, valueAddedCoefficients, importCoefficients, domesticCoefficients, domesticDemands, productionReport, inducedReport}
+use Rattle.model.specs.File.{Reading, reading}
+use Rattle.model.specs.Text.{decimal, line}
+use Rattle.model.specs.Figures.{pageBudget, firstRefusal, figuresProduction, figuresValue, figuresImports}
+use Rattle.model.specs.Page.{headings, refusalLine, orRefusal, sectorLine, linesTo, roundsLine, sheet, tablePage, tableRead, readingPage, page, pageLimit, pageBytes, pageReport}
+use Rattle.theory.specs.Slices.{Columns}
+use Rattle.theory.proofs.Sums.{upto, sum-cell, cell-in}
+use Rattle.theory.proofs.Lists.{cell-tabulate, first-before}
+use Rattle.theory.proofs.Shares.{portion-le}
+use Rattle.theory_rounds.proofs.Rounds.{weighted-shares, intermediate-within}
+use Rattle.theory.proofs.Verdicts.{Passes, single-passed, single-failed}
+use Rattle.theory_rounds.proofs.Answers.{InducedGiven, accepted-induced, accepted-settled}
+use Rattle.theory_tables.proofs.Tables.{table-sizes}
+use Rattle.theory_tables.proofs.Prepared.{production-ready, induced-ready}
+use Rattle.theory.proofs.Decimals.{decimal-fits, line-fits}
+use Rattle.theory_files.proofs.Readings.{Answered, reading-answered}
+
+-- ---- a refusal: its number and its place have five digits at most
+pub refusal-fits : (number place : ℕ) → number + place < 100000 → length (refusalLine number place) ≤ pageLimit
+unfolding refusalLine
+refusal-fits number place h =
+    omega (
+      arith,
+      length-append (decimal number) (32 ∷ decimal place ++ (10 ∷ [])),
+      length-append (decimal place) (10 ∷ []),
+      decimal-fits 4 number (omega arith),
+      decimal-fits 4 place (omega arith),
+    )
+
+-- so a report with such a number and place is short
+abbrev Near : Report → Type 0
+Near r = r .number + r .place < 100000
+
+-- a check whose number and places are few, and what is asked once it passes
+check-near : (q : Check) (qs : List Check) (k : List ℕ) → q .number + q .offset + q .places ≤ 100000 → (Passes q → Near (verdict qs k)) → Near (verdict (q ∷ qs) k)
+check-near q qs k few more = split (ltb place (q .places)) refl
+  where
+    place : ℕ
+    place = first (q .places) (q .passes)
+
+    split : (t : Bool) → ltb place (q .places) ≡ t → Near (cond t (refuses (length k) (q .number) (q .offset + place)) (verdict qs k))
+    split true e = omega (arith, ltb-true place (q .places) e, few)
+    split false e = more (λ i h. first-before (q .places) (q .passes) i (lt-of-lt-of-le h (ltb-false place (q .places) e)))
+
+-- numbers and places of all checks of a list: no refusal has more
+abbrev reach : List Check → ℕ
+reach [] = 0
+reach (q ∷ qs) = q .number + q .offset + q .places + reach qs
+
+verdict-near : (qs : List Check) (k : List ℕ) → reach qs ≤ 100000 → Near (verdict qs k)
+verdict-near [] k h = lit< tt
+verdict-near (q ∷ qs) k h = check-near q qs k (omega arith) (λ _. verdict-near qs k (omega arith))
+
+-- slices of n cells each: their places are counted on, n at a slice
+slices-near : (n place limit : ℕ) (ss : List (List ℕ)) (qs : List Check) (k : List ℕ) → Columns n ss → 3 + place + length ss * n ≤ 100000
+    → Near (verdict qs k) → Near (verdict (counted place limit ss ++ qs) k)
+slices-near n place limit [] qs k c few more = more
+slices-near n place limit (s ∷ ss) qs k c few more =
+    let long : length s ≡ n = c 0 (zero-lt-suc (length ss)) in
+    check-near (bounded 3 place limit s) (counted (place + length s) limit ss ++ qs) k (omega arith) (λ _.
+    slices-near n (place + length s) limit ss qs k (λ i h. c (suc i) (suc-le-suc h)) (omega arith) more)
+
+-- ---- the sheet: 39 bytes, n lines of at most 70, and 12
+pub lines-fit : (n : ℕ) (w : ℕ → List ℕ) (most : ℕ) → ((i : ℕ) → i < n → length (w i) ≤ most) → length (linesTo n w) ≤ n * most
+lines-fit zero w most h = omega arith
+lines-fit (suc n) w most h =
+    omega (arith, length-append (linesTo n w) (w n), lines-fit n w most (λ i l. h i (le-step l)), h n (lt-suc-self n))
+
+-- amounts of 13 digits at most, in the first n sectors
+abbrev pub Printable : ℕ → List ℕ → Type 0
+Printable n xs = (i : ℕ) → i < n → cell xs i < 10 ^ 13
+
+pub sector-fits : (n : ℕ) (f y v m : List ℕ) → n ≤ 40 → Printable n f → Printable n y → Printable n v → Printable n m
+    → (i : ℕ) → i < n → length (sectorLine f y v m i) ≤ 70
+sector-fits n f y v m few pf py pv pm i h =
+    line-fits 12 ((i + 1) ∷ cell f i ∷ cell y i ∷ cell v i ∷ cell m i ∷ []) (lit≤ tt)
+    (upto (upto (upto (upto (upto (λ k l. absurd (not-suc-le-zero l)) (omega arith)) (pf i h)) (py i h)) (pv i h)) (pm i h))
+
+pub rounds-fits : (k : ℕ) → k ≤ pageBudget → length (roundsLine k) ≤ 12
+rounds-fits k h = omega (arith, length-append (decimal k) (10 ∷ []), decimal-fits 3 k (omega arith))
+
+pub sheet-fits : (n : ℕ) (f y v m : List ℕ) (k : ℕ) → n ≤ 40 → Printable n f → Printable n y → Printable n v → Printable n m → k ≤ pageBudget
+    → length (sheet n f y v m k) ≤ pageLimit
+unfolding sheet
+sheet-fits n f y v m k few pf py pv pm h =
+    let lines = linesTo n (sectorLine f y v m) in
+    omega (
+      arith,
+      length-append (line headings) (lines ++ roundsLine k),
+      length-append lines (roundsLine k),
+      lines-fit n (sectorLine f y v m) 70 (sector-fits n f y v m few pf py pv pm),
+      rounds-fits k h,
+    )
+
+-- ---- the sheet of induced amounts: an accepted production has at most 1,600,000,000,000 in all, and shares of it and of the demand are no more
+module _ (n : ℕ) (a m v F y lent : List ℕ) (g : InducedGiven n a m v F y lent) where
+  production-printable : Printable n y
+  production-printable i h = omega (arith, sum-cell n (cell y) i h)
+
+  value-printable : Printable n (inducedValueAdded n v y)
+  unfolding inducedValueAdded
+  value-printable i h =
+      omega (
+        arith,
+        cell-tabulate n (λ j. portion (cell v j) (cell y j)) i h,
+        portion-le (cell v i) (cell y i) (g .values-small i h),
+        production-printable i h,
+      )
+
+  imports-printable : Printable n (inducedImports n (at n a) m F y)
+  unfolding inducedImports
+  imports-printable i h =
+      let taken = intermediate n (at n a) (cell y) i in
+      omega (
+        arith,
+        cell-tabulate n (λ i. portion (cell m i) (intermediate n (at n a) (cell y) i + cell F i)) i h,
+        portion-le (cell m i) (taken + cell F i) (g .imports-small i h),
+        intermediate-within n (at n a) (cell y) i,
+        weighted-shares n (at n a) (cell y) i (λ j l. g .inputs-small (i * n + j) (cell-in n i j h l)),
+        g .demand-small i h,
+      )
+
+-- ---- the page of any table that has a column for final demand, and 40 columns at most
+module _ (t : Table) (some-columns : 1 ≤ length (t .columns)) (few-columns : length (t .columns) ≤ 40) where
+  abbrev n : ℕ
+  n = t .sectors
+
+  abbrev d : List ℕ
+  d = domesticCoefficients t
+
+  abbrev f : List ℕ
+  f = domesticDemands t
+
+  abbrev y : List ℕ
+  y = figuresProduction t
+
+  abbrev squares : List ℕ
+  squares = n * n ∷ n * n ∷ []
+
+  abbrev columns : List ℕ
+  columns = n ∷ n ∷ n ∷ []
+
+  -- the reports of the three calls
+  abbrev sheets : Report
+  sheets = coefficientsReport t squares columns
+
+  abbrev settlingOf : Report
+  settlingOf = productionReport n d f pageBudget (n ∷ n ∷ [])
+
+  abbrev inducing : Report
+  inducing = inducedReport n (inputCoefficients t) (importCoefficients t) (valueAddedCoefficients t) (finalDemand t) y (n ∷ n ∷ [])
+
+  -- the page by the report of the figures
+  abbrev pageBy : Report → List ℕ
+  pageBy r = orRefusal r (sheet n f y (figuresValue t) (figuresImports t) (roundsOf r))
+
+  -- questions 1 and 2 have place 0; the others have places in slices whose lengths have passed these two
+  table-near : Near sheets
+  unfolding coefficientsReport
+  table-near =
+      let second = lengths n (length (t .flows) ∷ squares) (map length (t .columns) ++ columns) in
+      let third = bounded 3 0 amountLimit (t .flows) in
+      let amounts = counted (0 + length (t .flows)) amountLimit (t .columns) in
+      let seventh = columnSums n (at n d) ∷ [] in
+      let later = amounts ++ balanceChecks t ++ seventh in
+      check-near (size n) (second ∷ third ∷ later) [] (lit≤ tt) (λ p.
+      check-near second (third ∷ later) [] (lit≤ tt) (λ q.
+      let z = table-sizes t squares columns p q .0 in
+      let square = mul-le-mul (z .few) (z .few) in
+      check-near third later [] (omega (arith, square, z .flows)) (λ _.
+      rw (append-assoc amounts (balanceChecks t) seventh)
+      (slices-near n (0 + length (t .flows)) amountLimit (t .columns) (balanceChecks t ++ seventh) [] (z .columns)
+      (omega (arith, square, z .flows, mul-le-mul few-columns (z .few)))
+      (verdict-near (balanceChecks t ++ seventh) [] (omega (arith, z .few)))))))
+
+  -- the sheet of a production that is accepted for induced amounts
+  figures-fit : (k : ℕ) → inducing ≡ accepts [] → ((i : ℕ) → i < n → cell f i ≤ demandLimit) → k ≤ pageBudget → length (pageBy (accepts (k ∷ []))) ≤ pageLimit
+  figures-fit k ok small few =
+      let a = inputCoefficients t in
+      let m = importCoefficients t in
+      let v = valueAddedCoefficients t in
+      let F = finalDemand t in
+      let g = accepted-induced n a m v F y (n ∷ n ∷ []) (ap (λ (r : Report). r .accepted) ok) in
+      sheet-fits n f y (figuresValue t) (figuresImports t) k (g .sizes .few)
+      (λ i h. omega (arith, small i h))
+      (production-printable n a m v F y (n ∷ n ∷ []) g)
+      (value-printable n a m v F y (n ∷ n ∷ []) g)
+      (imports-printable n a m v F y (n ∷ n ∷ []) g)
+      few
+
+  -- an accepted table: question 9 alone decides, and where it passes the third call accepts
+  settling-fits : sheets .accepted ≡ true → length (pageBy (firstRefusal (settlingOf ∷ inducing ∷ []) (roundsOf settlingOf ∷ []))) ≤ pageLimit
+  unfolding productionReport
+  settling-fits ok = split (settles n (at n d) f pageBudget) refl
+    where
+      k : ℕ
+      k = settling n (at n d) f pageBudget
+
+      asked : settlingOf ≡ verdict (single 9 (settles n (at n d) f pageBudget) ∷ []) (k ∷ [])
+      asked = production-ready t squares columns ok pageBudget
+
+      split : (b : Bool) → settles n (at n d) f pageBudget ≡ b → length (pageBy (firstRefusal (settlingOf ∷ inducing ∷ []) (roundsOf settlingOf ∷ []))) ≤ pageLimit
+      split true e =
+          let said : settlingOf ≡ accepts (k ∷ []) = asked ∙ single-passed 9 [] (k ∷ []) e in
+          let accepted = ap (λ (r : Report). r .accepted) said in
+          let induced : inducing ≡ accepts [] = induced-ready t squares columns ok some-columns pageBudget accepted in
+          let both : firstRefusal (settlingOf ∷ inducing ∷ []) (roundsOf settlingOf ∷ []) ≡ accepts (k ∷ []) = rw (said, induced) refl in
+          rw both (figures-fit k induced (accepted-settled n d (at n d) demandLimit f pageBudget (n ∷ n ∷ []) accepted .0 .small) (leb-true k pageBudget e))
+      split false e =
+          let said : settlingOf ≡ refuses 1 9 0 = asked ∙ single-failed 9 [] (k ∷ []) e in
+          let stopped : firstRefusal (settlingOf ∷ inducing ∷ []) (roundsOf settlingOf ∷ []) ≡ refuses 1 9 0 = rw said refl in
+          rw stopped (refusal-fits 9 0 (lit< tt))
+
+  pub table-fits : length (tablePage t) ≤ pageLimit
+  unfolding tablePage
+  table-fits = split (sheets .accepted) refl
+    where
+      stopped : Report
+      stopped = refuses 1 (sheets .number) (sheets .place)
+
+      split : (b : Bool) → sheets .accepted ≡ b → length (pageBy (cond (sheets .accepted) (firstRefusal (settlingOf ∷ inducing ∷ []) (roundsOf settlingOf ∷ [])) stopped)) ≤ pageLimit
+      split true e = rw e (settling-fits e)
+      split false e =
+          let same : cond (sheets .accepted) (firstRefusal (settlingOf ∷ inducing ∷ []) (roundsOf settlingOf ∷ [])) stopped ≡ stopped = rw e refl in
+          rw same (refusal-fits (sheets .number) (sheets .place) table-near)
+
+-- ---- the page of a file: its own refusals have a number up to 15, and a place up to 12,649
+reading-fits : (r : Reading) → Answered 12649 r → length (readingPage r) ≤ pageLimit
+reading-fits (Reading.refused number place) p = refusal-fits number place (omega (arith, p .0, p .1))
+reading-fits (Reading.table n es) p = table-fits (tableRead n es) (lit≤ tt) (lit≤ tt)
+
+-- No page is longer: a buffer of that length holds every page, whatever the numbers of s
+pub page-fits : (s : List ℕ) → length (page s) ≤ pageLimit
+unfolding page
+page-fits s = reading-fits (reading s) (reading-answered s)
+
+-- ---- a text at the start of zeros
+drop-zeros : (k n : ℕ) → k ≤ n → drop {A = ℕ} k (replicate n 0) ≡ replicate (n - k) 0
+drop-zeros zero n h = let e : n - 0 ≡ n = omega arith in rw e refl
+drop-zeros (suc k) zero h = absurd (not-suc-le-zero h)
+drop-zeros (suc k) (suc n) h =
+    let e : suc n - suc k ≡ n - k = omega arith in
+    drop-zeros k n (omega arith) ∙ ap (λ (j : ℕ). replicate j 0) (sym e)
+
+over : (n : ℕ) (text : List ℕ) → length text ≤ n → sets (replicate n 0) 0 text ≡ text ++ replicate (n - length text) 0
+over n text h =
+    let size = length-replicate {A = ℕ} n 0 in
+    let start : 0 + length text ≡ length text = omega arith in
+    sets-eq text (replicate n 0) 0 (omega arith)
+    ∙ ap (λ (k : ℕ). text ++ drop {A = ℕ} k (replicate n 0)) start ∙ ap (λ (l : List ℕ). text ++ l) (drop-zeros (length text) n h)
+
+-- ---- the call: a buffer of the exact length, and one of another
+pub written : (s : List ℕ) → (pageReport pageLimit s ≡ accepts (length (page s) ∷ [])) × (pageBytes s ≡ sets (replicate pageLimit 0) 0 (page s))
+unfolding pageReport pageBytes
+written s = (refl, sym (over pageLimit (page s) (page-fits s)))
+
+pub unwritten : (len : ℕ) (s : List ℕ) → (len ≡ pageLimit → ⊥) → pageReport len s ≡ refuses 1 2 0
+unfolding pageReport
+unwritten len s h = single-failed 2 [] (length (page s) ∷ []) (ne-eqb pageLimit len (λ e. h (sym e)))

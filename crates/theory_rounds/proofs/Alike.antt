@@ -1,0 +1,81 @@
+-- Coefficients that are alike below n have the same rounds, so a matrix and its transposed copy serve alike. Narrow matrices. Assumes
+-- nothing.
+use mathlib.Core.Path.{_≡_, refl, sym, ap, ap₂, _∙_, fun-ext, subst⁻¹}
+use mathlib.Core.Bool.{not}
+use mathlib.Core.List.{List, [], _∷_}
+use Prim.Native.Nat.{ℕ, zero, suc, _+_, _*_, _/_, _%_, _≤_, _<_}
+use native.Mathlib.Omega.{arith}
+use lib.Dec.{leb}
+use lib.ListN.{length}
+use Rattle.model.specs.Numbers.{one, first, cell, same, at, transposed}
+use Rattle.model.specs.Rounds.{weighted, intermediate, round, rounds, changes, settling, Settles}
+use Rattle.model.specs.Checks.{Report, verdict, single, settles}
+use Rattle.model.specs.Promises.{AcceptedMatrix}
+use Rattle.theory_rounds.specs.Bounds.{RoundsFit, Narrow, sumLimit}
+use Rattle.theory_rounds.specs.Search.{Searched}
+use Rattle.theory.proofs.Sums.{sum-cong, sum-cell, cell-in}
+use Rattle.theory.proofs.Lists.{tabulate-cong}
+use Rattle.theory.proofs.Matrices.{place-row, place-column, place-cell}
+
+abbrev pub Alike : ℕ → (ℕ → ℕ → ℕ) → (ℕ → ℕ → ℕ) → Type 0
+Alike n c e = (i j : ℕ) → i < n → j < n → c i j ≡ e i j
+
+module _ (n : ℕ) (c e : ℕ → ℕ → ℕ) (alike : Alike n c e) where
+  weighted-alike : (f : ℕ → ℕ) (i : ℕ) → i < n → weighted n c f i ≡ weighted n e f i
+  weighted-alike f i h = sum-cong n (λ j l. ap (λ (x : ℕ). x * f j) (alike i j h l))
+
+  round-alike : (s y : List ℕ) → round n c s y ≡ round n e s y
+  unfolding round intermediate
+  round-alike s y = tabulate-cong n (λ i h. ap (λ (w : ℕ). cell s i + w / one) (weighted-alike (cell y) i h))
+
+  module _ (s : List ℕ) where
+    rounds-alike : (k : ℕ) → rounds n c s k ≡ rounds n e s k
+    unfolding rounds
+    rounds-alike zero = refl
+    rounds-alike (suc k) = ap (round n c s) (rounds-alike k) ∙ round-alike s (rounds n e s k)
+
+    changes-alike : (k : ℕ) → changes n c s k ≡ changes n e s k
+    unfolding changes
+    changes-alike zero = refl
+    changes-alike (suc k) = ap₂ (λ (y z : List ℕ). not (same n y z)) (rounds-alike (suc k)) (rounds-alike k)
+
+    settling-alike : (budget : ℕ) → settling n c s budget ≡ settling n e s budget
+    unfolding settling
+    settling-alike budget = ap (first (suc budget)) (fun-ext changes-alike)
+
+    -- question 9, and what settles
+    nine-alike : (budget : ℕ)
+        → verdict (single 9 (settles n c s budget) ∷ []) (settling n c s budget ∷ []) ≡ verdict (single 9 (settles n e s budget) ∷ []) (settling n e s budget ∷ [])
+    nine-alike budget = ap (λ (k : ℕ). verdict (single 9 (leb k budget) ∷ []) (k ∷ [])) (settling-alike budget)
+
+    settles-alike : {k : ℕ} {y : List ℕ} → Settles n c s k y → Settles n e s k y
+    settles-alike {k} σ =
+        record {
+          unchanged = sym (changes-alike k) ∙ σ .unchanged;
+          earlier = λ j h. sym (changes-alike j) ∙ σ .earlier j h;
+          amounts = σ .amounts ∙ rounds-alike k;
+        }
+
+    pub searched-alike : (budget : ℕ) (r : Report) (y : List ℕ) → Searched n c s budget r y → Searched n e s budget r y
+    searched-alike budget r y p = (p .0 ∙ nine-alike budget, λ h. let q = p .1 h in (settles-alike (q .0), q .1))
+
+    pub fits-alike : RoundsFit n e s → RoundsFit n c s
+    fits-alike p k i h =
+        subst⁻¹ (λ (w : ℕ). w ≤ sumLimit) (ap (λ (y : List ℕ). weighted n c (cell y) i) (rounds-alike k) ∙ weighted-alike (cell (rounds n e s k)) i h) (p k i h)
+
+module _ {n : ℕ} {d : List ℕ} (A : AcceptedMatrix n d) where
+  -- no cell is over its column's sum
+  pub matrix-narrow : Narrow d
+  matrix-narrow k h =
+      let l = subst⁻¹ (λ (m : ℕ). k < m) (sym (A .cells)) h in
+      let j = place-column n k (A .some) in
+      omega (arith, place-cell n d k, sum-cell n (transposed (at n d) (k % n)) (k / n) (place-row n k (A .some) l), A .low (k % n) j)
+
+  -- nor is one of a copy with rows and columns exchanged
+  pub transposed-narrow : (t : List ℕ) → length t ≡ n * n → Alike n (at n t) (transposed (at n d)) → Narrow t
+  transposed-narrow t e alike k h =
+      let l = subst⁻¹ (λ (m : ℕ). k < m) (sym e) h in
+      let i = place-row n k (A .some) l in
+      let j = place-column n k (A .some) in
+      let inside = subst⁻¹ (λ (m : ℕ). k % n * n + k / n < m) (A .cells) (cell-in n (k % n) (k / n) j i) in
+      omega (arith, place-cell n t k, alike (k / n) (k % n) i j, matrix-narrow (k % n * n + k / n) inside)

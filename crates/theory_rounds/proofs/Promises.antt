@@ -1,0 +1,178 @@
+-- What the papers promise of an accepted domestic matrix. Production goes along its rows, by the total; prices down its columns, by the
+-- largest; each is an instance of one law over a gauge. Assumes nothing.
+use mathlib.Core.Path.{_≡_, refl, sym, ap, _∙_}
+use mathlib.Core.Bool.{Bool, true, false}
+use mathlib.Core.List.{List, [], _∷_}
+use Prim.Native.Nat.{ℕ, suc, _≤_, _<_}
+use native.Mathlib.Omega.{arith}
+use native.Mathlib.Nat.{le-refl, le-trans}
+use borrow.Author.Tests.{le-leb, eq-eqb}
+use lib.ListN.{length, replicate}
+use Rattle.model.specs.Numbers.{sum, largest, at, cell, transposed, oriented}
+use Rattle.model.specs.Rounds.{weighted, intermediate, rounds, Settles, shortfall, settling, settled, impliedDemand}
+use Rattle.model.specs.Checks.{Report, accepts, roundsOf, output, demandLimit, riseLimit, productionLimit, productionTotal, demandLeft}
+use Rattle.model.specs.Calls.{matrixChecks, productionReport, priceReport, impliedReport}
+use Rattle.model.specs.Promises.{AcceptedMatrix, Distinguishes, Accurate, AccuratePrices, Returns, NotAbove}
+use Rattle.model.specs.Contracts.{Produced, Priced, Implied}
+use Rattle.theory_rounds.specs.Bounds.{sumLimit}
+use Rattle.theory.proofs.Sums.{sum-mono, sum-const, sum-part, sum-cell, largest-le, largest-cell}
+use Rattle.theory_rounds.proofs.Gauge.{total-gauge, largest-gauge}
+use Rattle.theory_rounds.proofs.Rounds.{equal-starts, settles-fixed, settles-length, lowest, implied-cell, forward-back}
+use Rattle.theory_rounds.proofs.Accuracy.{not-above, lacks-less, rounds-bounded, weighted-bounded}
+use Rattle.theory.proofs.Verdicts.{output-given, pass-on, matrix-accepted}
+use Rattle.theory_rounds.proofs.Answers.{Started, accepted-settled, call-settles, accepted-implied}
+
+module _ {n : ℕ} {d : List ℕ} (A : AcceptedMatrix n d) where
+  -- Demand 3, first half: equal productions exactly from equal demands, whatever the demands
+  pub distinguishes : {f y : List ℕ} {k : ℕ} → Settles n (at n d) f k y → Distinguishes n d f y
+  distinguishes σ g z m τ = equal-starts n (at n d) σ τ
+
+  -- Demand 3, second half: nowhere too high, and together less than 20 × n short
+  pub accurate : {f y : List ℕ} {k : ℕ} → Settles n (at n d) f k y → Accurate n d f y
+  accurate σ q b β =
+      record {
+        nowhereTooHigh = not-above n (at n d) β σ;
+        together = lacks-less n (at n d) (sum n) n (total-gauge n (at n d) (A .low)) (A .some) β σ;
+      }
+
+  -- Prices: nowhere above, and in each sector less than 20 millionths short
+  pub accurate-prices : {w r : List ℕ} {k : ℕ} → Settles n (transposed (at n d)) w k r → AccuratePrices n d w r
+  accurate-prices {w} {r} σ q b β =
+      let lack = lacks-less n (transposed (at n d)) (largest n) 1 (largest-gauge n (at n d) (A .low)) (le-refl 1) β σ in
+      record {
+        nowhereAbove = not-above n (transposed (at n d)) β σ;
+        each = λ i h. omega (arith, largest-cell n (shortfall q b r) i h);
+      }
+
+  -- ---- no sum of a round leaves 64 bits
+  module _ (s : List ℕ) (small : (i : ℕ) → i < n → cell s i ≤ demandLimit) where
+    total-small : sum n (cell s) ≤ 80000000000
+    total-small = let few = A .few in omega (arith, sum-mono n small, sum-const n demandLimit)
+
+    production-fits : (k i : ℕ) → i < n → weighted n (at n d) (cell (rounds n (at n d) s k)) i ≤ sumLimit
+    production-fits k i h =
+        let t = total-small in
+        omega (arith, weighted-bounded n (at n d) (sum n) n (total-gauge n (at n d) (A .low)) s k i h)
+
+    price-fits : (k i : ℕ) → i < n → weighted n (transposed (at n d)) (cell (rounds n (transposed (at n d)) s k)) i ≤ sumLimit
+    price-fits k i h =
+        omega (
+          arith,
+          weighted-bounded n (transposed (at n d)) (largest n) 1 (largest-gauge n (at n d) (A .low)) s k i h,
+          largest-le n small,
+        )
+
+    pub rounds-fit : (t : Bool) (k i : ℕ) → i < n
+        → weighted n (oriented t (at n d)) (cell (rounds n (oriented t (at n d)) s k)) i ≤ sumLimit
+    rounds-fit true = price-fits
+    rounds-fit false = production-fits
+
+    -- and the total of a round is one that question 8 lets pass
+    total-fits : (k : ℕ) → sum n (cell (rounds n (at n d) s k)) ≤ productionLimit
+    total-fits k =
+        let t = total-small in
+        omega (arith, rounds-bounded n (at n d) (sum n) n (total-gauge n (at n d) (A .low)) s k)
+
+    pub settled-total : (budget : ℕ) → sum n (cell (settled n (at n d) s budget)) ≤ productionLimit
+    unfolding settled
+    settled-total budget = total-fits (settling n (at n d) s budget)
+
+  pub implied-fits : (y : List ℕ) → sum n (cell y) ≤ productionLimit → (i : ℕ) → i < n → weighted n (at n d) (cell y) i ≤ sumLimit
+  implied-fits y h i l =
+      omega (arith, sum-cell n (weighted n (at n d) (cell y)) i l, total-gauge n (at n d) (A .low) .shrinks (cell y))
+
+-- ---- at the calls: a call that answers and leaves what the definitions say keeps every promise
+pub produced : (n : ℕ) (d f : List ℕ) (budget : ℕ) (out₀ work₀ : List ℕ) {r : Report} {out work : List ℕ}
+    → r ≡ productionReport n d f budget (length out₀ ∷ length work₀ ∷ []) → out ≡ output r (length out₀) (settled n (at n d) f budget)
+    → work ≡ replicate (length work₀) 0 → Produced n d f budget out₀ work₀ r out work
+unfolding productionReport
+produced n d f budget out₀ work₀ {r} {out} e o z =
+    record {
+      answer = e;
+      outputs = o;
+      cleared = z;
+      settles = λ a. kept a .1;
+      distinct = λ a. distinguishes (kept a .0 .matrix) (kept a .1);
+      accurate = λ a. accurate (kept a .0 .matrix) (kept a .1);
+    }
+  where
+    lent : List ℕ
+    lent = length out₀ ∷ length work₀ ∷ []
+
+    kept : r .accepted ≡ true → Started n d demandLimit f lent × Settles n (at n d) f (roundsOf r) out
+    kept a = call-settles n d (at n d) demandLimit f budget lent (length out₀) e o a
+
+pub priced : (n : ℕ) (d w : List ℕ) (budget : ℕ) (out₀ work₀ : List ℕ) {r : Report} {out work : List ℕ}
+    → r ≡ priceReport n d w budget (length out₀ ∷ length work₀ ∷ []) → out ≡ output r (length out₀) (settled n (transposed (at n d)) w budget)
+    → work ≡ replicate (length work₀) 0 → Priced n d w budget out₀ work₀ r out work
+unfolding priceReport
+priced n d w budget out₀ work₀ {r} {out} e o z =
+    record { answer = e; outputs = o; cleared = z; settles = λ a. kept a .1; accurate = λ a. accurate-prices (kept a .0 .matrix) (kept a .1) }
+  where
+    lent : List ℕ
+    lent = length out₀ ∷ length work₀ ∷ []
+
+    kept : r .accepted ≡ true → Started n d riseLimit w lent × Settles n (transposed (at n d)) w (roundsOf r) out
+    kept a = call-settles n d (transposed (at n d)) riseLimit w budget lent (length out₀) e o a
+
+-- Demand 2: a demand behind a production is that of every start that settles there
+pub returns : (n : ℕ) (d y : List ℕ) → Returns n d y (impliedDemand n (at n d) y)
+returns n d y g k e σ = forward-back n (at n d) e σ
+
+-- and what it settles at is nowhere above the production, if industry takes no more than there is
+pub not-above-given : (n : ℕ) (d y : List ℕ) → ((i : ℕ) → i < n → intermediate n (at n d) (cell y) i ≤ cell y i)
+    → NotAbove n d y (impliedDemand n (at n d) y)
+not-above-given n d y p z k σ =
+    lowest n (at n d) σ (cell y) (λ i h. omega (arith, p i h, implied-cell n (at n d) y i h))
+
+-- Demand 2: where production is accepted, going back from what it gives is accepted too, and returns the demand
+pub forward-then-back : (n : ℕ) (d f : List ℕ) (budget : ℕ) (lent : List ℕ) → productionReport n d f budget lent .accepted ≡ true
+    → (impliedReport n d (settled n (at n d) f budget) (n ∷ []) ≡ accepts []) × (impliedDemand n (at n d) (settled n (at n d) f budget) ≡ f)
+unfolding productionReport impliedReport
+forward-then-back n d f budget lent a = (
+  pass-on (matrixChecks n d [] (length y ∷ n ∷ [])) (productionTotal n y ∷ demandLeft n (at n d) y ∷ []) []
+      (matrix-accepted n d [] (length y ∷ n ∷ []) (s .matrix) refl (rw (eq-eqb n (length y) (sym (settles-length n (at n d) (s .start) σ)), eq-eqb n n refl)))
+      ∙ pass-on (productionTotal n y ∷ demandLeft n (at n d) y ∷ []) [] []
+      (λ i h. le-leb _ _ (le-trans (sum-part (suc i) n (cell y) h) total), (λ i h. le-leb _ _ (left i h), tt)),
+  returns n d y f (settling n (at n d) f budget) (s .start) σ,
+)
+  where
+    y : List ℕ
+    y = settled n (at n d) f budget
+
+    s : Started n d demandLimit f lent
+    s = accepted-settled n d (at n d) demandLimit f budget lent a .0
+
+    σ : Settles n (at n d) f (settling n (at n d) f budget) y
+    σ = accepted-settled n d (at n d) demandLimit f budget lent a .1
+
+    total : sum n (cell y) ≤ productionLimit
+    total = settled-total (s .matrix) f (s .small) budget
+
+    left : (i : ℕ) → i < n → intermediate n (at n d) (cell y) i ≤ cell y i
+    left i h = omega (arith, settles-fixed n (at n d) σ i h)
+
+-- a call of implied demand that answers and leaves what the definitions say keeps these promises
+pub implied : (n : ℕ) (d y out₀ : List ℕ) {r : Report} {out : List ℕ}
+    → r ≡ impliedReport n d y (length out₀ ∷ []) → out ≡ output r (length out₀) (impliedDemand n (at n d) y) → Implied n d y out₀ r out
+implied n d y out₀ {r} {out} e o =
+    record {
+      answer = e;
+      outputs = o;
+      returns = λ a. rw (result a) (returns n d y);
+      back = λ a. rw (result a) (not-above-given n d y (left a));
+      inverse = λ f budget lent a h l. again f budget lent a h l;
+    }
+  where
+    result : r .accepted ≡ true → out ≡ impliedDemand n (at n d) y
+    result a = o ∙ output-given r (length out₀) (impliedDemand n (at n d) y) a
+
+    left : r .accepted ≡ true → (i : ℕ) → i < n → intermediate n (at n d) (cell y) i ≤ cell y i
+    left a = accepted-implied n d y (length out₀ ∷ []) (ap (λ (r : Report). r .accepted) (sym e) ∙ a) .1
+
+    again : (f : List ℕ) (budget : ℕ) (lent : List ℕ) → productionReport n d f budget lent .accepted ≡ true → y ≡ settled n (at n d) f budget → length out₀ ≡ n
+        → (r ≡ accepts []) × (out ≡ f)
+    again f budget lent a h l =
+        let p = forward-then-back n d f budget lent a in
+        let t : r ≡ accepts [] = e ∙ rw (h, l) (p .0) in
+        (t, result (ap (λ (r : Report). r .accepted) t) ∙ rw h (p .1))

@@ -1,0 +1,4 @@
+-- What contracts of the settling functions cite beside the definitions of `model`.
+pub mod Bounds
+pub mod Rises
+pub mod Search

@@ -1,0 +1,3 @@
+-- What the checks of a table say of it, its sheets one from the other, and what they are good for.
+pub mod Tables
+pub mod Prepared

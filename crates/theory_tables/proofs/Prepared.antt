@@ -1,0 +1,145 @@
+-- What the sheets of an accepted table are good for: production is decided by question 9 alone, and what it settles at is accepted by the
+-- calls for induced amounts and, as every production is, for implied demand. Assumes nothing.
+use mathlib.Core.Path.{_≡_, refl, sym, _∙_}
+use mathlib.Core.Bool.{true}
+use mathlib.Core.List.{List, [], _∷_, _++_}
+use Prim.Native.Nat.{ℕ, suc, _*_, _/_, _%_, _≤_, _<_}
+use native.Mathlib.Nat.{le-trans}
+use borrow.Author.Tests.{le-leb, leb-true, eq-eqb}
+use lib.Dec.{eqb}
+use lib.ListN.{length}
+use Rattle.model.specs.Numbers.{one, sum, all, cell, at, transposed}
+use Rattle.model.specs.Table.{Table, finalDemand, inputCoefficient, valueAddedCoefficient, importCoefficient, domesticCoefficient, domesticDemand}
+use Rattle.model.specs.Rounds.{settling, settled}
+use Rattle.model.specs.Checks.{Check, accepts, verdict, size, lengths, bounded, single, settles, demandLimit, amountLimit, columnSums, inducedAmounts, productionLimit, productionTotal}
+use Rattle.model.specs.Calls.{tableChecks, matrixChecks, coefficientsReport, productionReport, inducedReport, inputCoefficients, valueAddedCoefficients, importCoefficients, domesticCoefficients, domesticDemands}
+use Rattle.model.specs.Promises.{AcceptedMatrix}
+use Rattle.theory.proofs.Sums.{sum-part}
+use Rattle.theory.proofs.Lists.{length-tabulate, cell-tabulate}
+use Rattle.theory_rounds.proofs.Rounds.{settles-length}
+use Rattle.theory.proofs.Verdicts.{AllPass, accepted-all, all-pass-parts, pass-on, size-passes, lengths-pass, matrix-accepted}
+use Rattle.theory_rounds.proofs.Answers.{accepted-settled}
+use Rattle.theory_tables.proofs.Tables.{Accepted, accepted-table, inputs-small, imports-small, value-small, demand-small}
+use Rattle.theory_rounds.proofs.Promises.{settled-total}
+
+-- the lengths of the sheets
+length-inputs : (t : Table) → length (inputCoefficients t) ≡ t .sectors * t .sectors
+unfolding inputCoefficients
+length-inputs t = length-tabulate (t .sectors * t .sectors) (λ k. inputCoefficient t (k / t .sectors) (k % t .sectors))
+
+length-values : (t : Table) → length (valueAddedCoefficients t) ≡ t .sectors
+unfolding valueAddedCoefficients
+length-values t = length-tabulate (t .sectors) (valueAddedCoefficient t)
+
+length-imports : (t : Table) → length (importCoefficients t) ≡ t .sectors
+unfolding importCoefficients
+length-imports t = length-tabulate (t .sectors) (importCoefficient t)
+
+length-domestic : (t : Table) → length (domesticCoefficients t) ≡ t .sectors * t .sectors
+unfolding domesticCoefficients
+length-domestic t = length-tabulate (t .sectors * t .sectors) (λ k. domesticCoefficient t (k / t .sectors) (k % t .sectors))
+
+length-demands : (t : Table) → length (domesticDemands t) ≡ t .sectors
+unfolding domesticDemands
+length-demands t = length-tabulate (t .sectors) (domesticDemand t)
+
+values-small : (t : Table) (matrices lent : List ℕ) → Accepted t matrices lent → (j : ℕ) → j < t .sectors → cell (valueAddedCoefficients t) j ≤ one
+unfolding valueAddedCoefficients
+values-small t matrices lent A j h = rw (cell-tabulate (t .sectors) (valueAddedCoefficient t) j h) (value-small t (A .small) (A .balance) j h)
+
+demands-small : (t : Table) (matrices lent : List ℕ) → Accepted t matrices lent → (i : ℕ) → i < t .sectors → cell (domesticDemands t) i ≤ demandLimit
+unfolding domesticDemands
+demands-small t matrices lent A i h = rw (cell-tabulate (t .sectors) (domesticDemand t) i h) (demand-small t (A .small) (A .balance) i h)
+
+module _ (t : Table) (matrices lent : List ℕ) (ok : coefficientsReport t matrices lent .accepted ≡ true) where
+  abbrev seventh : List Check
+  seventh = columnSums (t .sectors) (at (t .sectors) (domesticCoefficients t)) ∷ []
+
+  passes : AllPass (tableChecks t matrices lent) × AllPass seventh
+  unfolding coefficientsReport
+  passes = all-pass-parts (tableChecks t matrices lent) seventh (accepted-all (tableChecks t matrices lent ++ seventh) [] ok)
+
+  -- the table, and its domestic matrix
+  pub table-accepted : Accepted t matrices lent
+  table-accepted = accepted-table t matrices lent (passes .0)
+
+  pub matrix-is-accepted : AcceptedMatrix (t .sectors) (domesticCoefficients t)
+  matrix-is-accepted =
+      record {
+        some = table-accepted .sizes .some;
+        few = table-accepted .sizes .few;
+        cells = length-domestic t;
+        low = λ j h. leb-true (sum (t .sectors) (transposed (at (t .sectors) (domesticCoefficients t)) j)) 950_000 (passes .1 .0 j h);
+      }
+
+  -- production of its d and f is never refused with 1, 2, 7 or 8: question 9 alone decides
+  pub production-ready : (budget : ℕ)
+      → let n = t .sectors in
+      let d = domesticCoefficients t in
+      let f = domesticDemands t in
+      productionReport n d f budget (n ∷ n ∷ []) ≡ verdict (single 9 (settles n (at n d) f budget) ∷ []) (settling n (at n d) f budget ∷ [])
+  unfolding productionReport
+  production-ready budget =
+      let n = t .sectors in
+      let d = domesticCoefficients t in
+      let f = domesticDemands t in
+      let k = settling n (at n d) f budget ∷ [] in
+      let last = single 9 (settles n (at n d) f budget) ∷ [] in
+      let slices : all (eqb n) (length f ∷ n ∷ n ∷ []) ≡ true = rw (eq-eqb n (length f) (sym (length-demands t)), eq-eqb n n refl) in
+      pass-on (matrixChecks n d [] (length f ∷ n ∷ n ∷ [])) (bounded 8 0 demandLimit f ∷ last) k
+      (matrix-accepted n d [] (length f ∷ n ∷ n ∷ []) matrix-is-accepted refl slices)
+      ∙ pass-on (bounded 8 0 demandLimit f ∷ []) last k
+      (λ i h. le-leb (cell f i) demandLimit (demands-small t matrices lent table-accepted i (rw (length-demands t) at h)), tt)
+
+  -- and what it settles at is accepted for induced amounts
+  pub induced-ready : 1 ≤ length (t .columns) → (budget : ℕ)
+      → let n = t .sectors in
+      let d = domesticCoefficients t in
+      let f = domesticDemands t in
+      productionReport n d f budget (n ∷ n ∷ []) .accepted ≡ true
+      → inducedReport n (inputCoefficients t) (importCoefficients t) (valueAddedCoefficients t) (finalDemand t) (settled n (at n d) f budget) (n ∷ n ∷ []) ≡ accepts []
+  unfolding productionReport inducedReport
+  induced-ready some-columns budget settles =
+      let n = t .sectors in
+      let a = inputCoefficients t in
+      let m = importCoefficients t in
+      let v = valueAddedCoefficients t in
+      let F = finalDemand t in
+      let columns = length m ∷ length v ∷ length F ∷ length y ∷ n ∷ n ∷ [] in
+      let A = table-accepted in
+      let slices : all (eqb n) columns ≡ true =
+      rw (eq-eqb n (length m) (sym (length-imports t)), eq-eqb n (length v) (sym (length-values t)), eq-eqb n (length F) (sym (A .sizes .columns 0 some-columns)), eq-eqb n (length y) (sym len), eq-eqb n n refl) in
+      let squares : all (eqb (n * n)) (length a ∷ []) ≡ true = rw (eq-eqb (n * n) (length a) (sym (length-inputs t))) in
+      pass-on (size n ∷ lengths n (length a ∷ []) columns ∷ inducedAmounts n a m v F ++ (productionTotal n y ∷ [])) [] [] (
+        size-passes n (length a ∷ []) columns (A .sizes .some) (A .sizes .few),
+        (
+          lengths-pass n (length a ∷ []) columns squares slices,
+          (
+            λ i h. le-leb (cell a i) one (inputs-small t (A .sizes .some) (A .small) (A .balance) i (rw (length-inputs t) at h)),
+            (
+              λ i h. le-leb (cell m i) one (imports-small t (A .small) (A .balance) i (rw (length-imports t) at h)),
+              (
+                λ i h. le-leb (cell v i) one (values-small t matrices lent A i (rw (length-values t) at h)),
+                (
+                  λ i h. le-leb (cell F i) amountLimit (A .small .columns 0 i),
+                  (λ i h. le-leb (sum (suc i) (cell y)) productionLimit (le-trans (sum-part (suc i) n (cell y) h) total), tt),
+                ),
+              ),
+            ),
+          ),
+        ),
+      )
+    where
+      c : ℕ → ℕ → ℕ
+      c = at (t .sectors) (domesticCoefficients t)
+
+      y : List ℕ
+      y = settled (t .sectors) c (domesticDemands t) budget
+
+      len : length y ≡ t .sectors
+      len =
+          settles-length (t .sectors) c (length-demands t)
+          (accepted-settled (t .sectors) (domesticCoefficients t) c demandLimit (domesticDemands t) budget (t .sectors ∷ t .sectors ∷ []) settles .1)
+
+      total : sum (t .sectors) (cell y) ≤ productionLimit
+      total = settled-total matrix-is-accepted (domesticDemands t) (demands-small t matrices lent table-accepted) budget

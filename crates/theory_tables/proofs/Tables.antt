@@ -1,0 +1,157 @@
+-- What the checks of a table say of it. Assumes nothing.
+use mathlib.Core.Path.{_≡_, refl, sym, ap, ap₂, _∙_}
+use mathlib.Core.Bool.{Bool, true, false}
+use mathlib.Core.List.{List, [], _∷_, _++_, map}
+use Prim.Native.Nat.{ℕ, zero, suc, _+_, _*_, _-_, _/_, _%_, _≤_, _<_, zero-le}
+use native.Mathlib.Nat.{sub-le, zero-add, not-suc-le-zero, le-of-suc-le-suc}
+use native.Mathlib.Omega.{arith}
+use borrow.Author.Tests.{leb-true, eqb-true, ltb-true, ltb-false}
+use lib.Dec.{ltb}
+use lib.ListN.{length, getD, List·getD-eq-default}
+use Rattle.model.specs.Numbers.{one, tabulate, cell, at, matrix, transposed}
+use Rattle.model.specs.Table.{Table, finalDemand, exports, imports, valueAdded, production, flow, need, portion, inputCoefficient, valueAddedCoefficient, importCoefficient, domesticCoefficient, domesticDemand}
+use Rattle.model.specs.Checks.{size, lengths, bounded, counted, amountLimit, demandLimit, tableAmounts, balanceChecks}
+use Rattle.model.specs.Calls.{tableChecks, inputCoefficients, importCoefficients, domesticCoefficients, domesticDemands}
+use Rattle.theory.specs.Slices.{Each, Columns}
+use Rattle.theory_tables.specs.Tables.{TableSizes, TableAmounts, Balanced}
+use Rattle.theory.proofs.Lists.{cell-tabulate, tabulate-cong}
+use Rattle.theory.proofs.Sums.{sum-cell}
+use Rattle.theory.proofs.Matrices.{place-row, place-column, place-cell}
+use Rattle.theory.proofs.Shares.{share-le, portion-le}
+use Rattle.theory.proofs.Verdicts.{Passes, AllPass, all-pass-parts, sized}
+
+-- every length of a list of slices, and of what follows them
+pub slice-lengths : (n : ℕ) (ss : List (List ℕ)) (lent : List ℕ) → Each n (map length ss ++ lent) → Columns n ss × Each n lent
+slice-lengths n [] lent e = (λ c h. absurd (not-suc-le-zero h), e)
+slice-lengths n (s ∷ ss) lent (e, es) = let p = slice-lengths n ss lent es in (one-more e (p .0), p .1)
+  where
+    one-more : length s ≡ n → Columns n ss → (c : ℕ) → c < suc (length ss) → length (getD (s ∷ ss) c []) ≡ n
+    one-more e more zero h = e
+    one-more e more (suc c) h = more c (le-of-suc-le-suc h)
+
+pub table-sizes : (t : Table) (matrices lent : List ℕ) → Passes (size (t .sectors))
+    → Passes (lengths (t .sectors) (length (t .flows) ∷ matrices) (map length (t .columns) ++ lent))
+    → TableSizes t × Each (t .sectors * t .sectors) matrices × Each (t .sectors) lent
+table-sizes t matrices lent p q =
+    let n = t .sectors in
+    let s = sized n (length (t .flows) ∷ matrices) (map length (t .columns) ++ lent) p q in
+    let l = slice-lengths n (t .columns) lent (s .slices) in
+    (record { some = s .some; few = s .few; flows = s .squares .0; columns = l .0 }, s .squares .1, l .1)
+
+-- the amounts of the columns are counted on from the length of x
+pub amounts-are : (t : Table) → bounded 3 0 amountLimit (t .flows) ∷ counted (length (t .flows)) amountLimit (t .columns) ≡ tableAmounts t
+amounts-are t = ap (λ (place : ℕ). bounded 3 0 amountLimit (t .flows) ∷ counted place amountLimit (t .columns)) (sym (zero-add (length (t .flows))))
+
+-- a cell of a bounded slice, and of any of slices with one limit
+bounded-cell : (place limit : ℕ) (s : List ℕ) → Passes (bounded 3 place limit s) → (k : ℕ) → cell s k ≤ limit
+bounded-cell place limit s p k = split (ltb k (length s)) refl
+  where
+    split : (b : Bool) → ltb k (length s) ≡ b → cell s k ≤ limit
+    split true e = leb-true (cell s k) limit (p k (ltb-true k (length s) e))
+    split false e = rw (List·getD-eq-default s 0 (ltb-false k (length s) e)) zero-le
+
+pub counted-cell : (place limit : ℕ) (ss : List (List ℕ)) → AllPass (counted place limit ss) → (c k : ℕ) → cell (getD ss c []) k ≤ limit
+counted-cell place limit [] p c k = zero-le
+counted-cell place limit (s ∷ ss) p zero k = bounded-cell place limit s (p .0) k
+counted-cell place limit (s ∷ ss) p (suc c) k = counted-cell (place + length s) limit ss (p .1) c k
+
+pub table-amounts : (t : Table) → AllPass (tableAmounts t) → TableAmounts t
+table-amounts t p =
+    let small = counted-cell 0 amountLimit (t .flows ∷ t .columns) p in
+    record { flows = small 0; columns = λ c. small (suc c) }
+
+pub balanced : (t : Table) → AllPass (balanceChecks t) → Balanced t
+balanced t (c, (r, (m, _))) =
+    record {
+      columns = λ j h. eqb-true _ _ (c j h);
+      rows = λ i h. eqb-true _ _ (r i h);
+      covered = λ i h. leb-true _ _ (m i h);
+    }
+
+-- a table that passes questions 1 to 6, and the slices that are lent beside it
+pub record Accepted (t : Table) (matrices lent : List ℕ) : Type 0 where
+  pub sizes : TableSizes t
+  pub small : TableAmounts t
+  pub balance : Balanced t
+  pub squares : Each (t .sectors * t .sectors) matrices
+  pub slices : Each (t .sectors) lent
+
+pub accepted-table : (t : Table) (matrices lent : List ℕ) → AllPass (tableChecks t matrices lent) → Accepted t matrices lent
+accepted-table t matrices lent (p, (q, rest)) =
+    let z = table-sizes t matrices lent p q in
+    let r = all-pass-parts (tableAmounts t) (balanceChecks t) rest in
+    record {
+      sizes = z .0;
+      small = table-amounts t (r .0);
+      balance = balanced t (r .1);
+      squares = z .1;
+      slices = z .2;
+    }
+
+-- ---- an accepted table's coefficients are within one, and its demands within their limit
+module _ (t : Table) (a : TableAmounts t) (b : Balanced t) where
+  pub input-small : (i j : ℕ) → i < t .sectors → j < t .sectors → inputCoefficient t i j ≤ one
+  unfolding inputCoefficient
+  input-small i j h l =
+      share-le (flow t i j) (cell (production t) j) (omega (arith, sum-cell (t .sectors) (transposed (flow t) j) i h, b .columns j l))
+
+  pub value-small : (j : ℕ) → j < t .sectors → valueAddedCoefficient t j ≤ one
+  unfolding valueAddedCoefficient
+  value-small j l = share-le (cell (valueAdded t) j) (cell (production t) j) (omega (arith, b .columns j l))
+
+  pub import-small : (i : ℕ) → i < t .sectors → importCoefficient t i ≤ one
+  unfolding importCoefficient
+  import-small i h = share-le (cell (imports t) i) (need t i) (b .covered i h)
+
+  pub demand-small : (i : ℕ) → i < t .sectors → domesticDemand t i ≤ demandLimit
+  unfolding domesticDemand
+  demand-small i h =
+      omega (
+        arith,
+        portion-le (one - importCoefficient t i) (cell (finalDemand t) i) (sub-le one (importCoefficient t i)),
+        a .columns 0 i,
+        a .columns 1 i,
+      )
+
+-- ---- the sheets, as they are worked out one from the other
+module _ (t : Table) where
+  pub input-cell : (k : ℕ) → k < t .sectors * t .sectors → cell (inputCoefficients t) k ≡ inputCoefficient t (k / t .sectors) (k % t .sectors)
+  unfolding inputCoefficients
+  input-cell k h = cell-tabulate (t .sectors * t .sectors) (λ k. inputCoefficient t (k / t .sectors) (k % t .sectors)) k h
+
+  pub import-cell : (i : ℕ) → i < t .sectors → cell (importCoefficients t) i ≡ importCoefficient t i
+  unfolding importCoefficients
+  import-cell i h = cell-tabulate (t .sectors) (importCoefficient t) i h
+
+  domestic-is : 1 ≤ t .sectors
+      → matrix (t .sectors) (λ i j. portion (one - cell (importCoefficients t) i) (at (t .sectors) (inputCoefficients t) i j)) ≡ domesticCoefficients t
+  unfolding domesticCoefficients domesticCoefficient
+  domestic-is some =
+      let n = t .sectors in
+      tabulate-cong (n * n)
+      (λ k h.
+      ap₂ portion (ap (λ (m : ℕ). one - m) (import-cell (k / n) (place-row n k some h)))
+      (place-cell n (inputCoefficients t) k ∙ input-cell k h))
+
+  demand-is : tabulate (t .sectors) (λ i. portion (one - cell (importCoefficients t) i) (cell (finalDemand t) i) + cell (exports t) i) ≡ domesticDemands t
+  unfolding domesticDemands domesticDemand
+  demand-is =
+      tabulate-cong (t .sectors)
+      (λ i h. ap (λ (m : ℕ). portion (one - m) (cell (finalDemand t) i) + cell (exports t) i) (import-cell i h))
+
+pub domestic-from : (t : Table) {a m : List ℕ} → 1 ≤ t .sectors → a ≡ inputCoefficients t → m ≡ importCoefficients t
+    → matrix (t .sectors) (λ i j. portion (one - cell m i) (at (t .sectors) a i j)) ≡ domesticCoefficients t
+domestic-from t some e f = rw (e, f) (domestic-is t some)
+
+pub demand-from : (t : Table) {m : List ℕ} → m ≡ importCoefficients t
+    → tabulate (t .sectors) (λ i. portion (one - cell m i) (cell (finalDemand t) i) + cell (exports t) i) ≡ domesticDemands t
+demand-from t e = rw e (demand-is t)
+
+-- so the cells of a and of m are within one
+pub inputs-small : (t : Table) → 1 ≤ t .sectors → TableAmounts t → Balanced t → (k : ℕ) → k < t .sectors * t .sectors → cell (inputCoefficients t) k ≤ one
+inputs-small t some a b k h =
+    let n = t .sectors in
+    rw (input-cell t k h) (input-small t a b (k / n) (k % n) (place-row n k some h) (place-column n k some))
+
+pub imports-small : (t : Table) → TableAmounts t → Balanced t → (i : ℕ) → i < t .sectors → cell (importCoefficients t) i ≤ one
+imports-small t a b i h = rw (import-cell t i h) (import-small t a b i h)

@@ -1,0 +1,2 @@
+-- What contracts of helpers that see a table cite beside the definitions of `model`.
+pub mod Tables
