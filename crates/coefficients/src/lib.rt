@@ -2,7 +2,7 @@
 use cells::output;
 use model::Answer;
 use table_checks::check_table;
-use table_sheets::fill_imports;
+use table_sheets::fill_import_shares;
 use table_sheets::fill_inputs;
 use table_sheets::fill_shares;
 use table_sheets::finish;
@@ -98,7 +98,7 @@ fn fill_sheets(
     }
     fill_inputs(n, x, production, a);
     fill_shares(n, value_added, production, v);
-    fill_imports(n, x, final_demand, imports, m);
+    fill_import_shares(n, x, final_demand, imports, m);
     finish(n, a, m, final_demand, exports, d, f)
 }
 

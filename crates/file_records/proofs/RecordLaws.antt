@@ -8,7 +8,7 @@ use borrow.Author.Tests.{lt-leb, le-leb, leb-true, leb-false, eq-eqb, ne-eqb, eq
 use lib.Dec.{eqb, leb}
 use lib.ListN.{length}
 use Rattle.model.specs.Numbers.{first, cell}
-use Rattle.model.specs.File.{Entry, recordLengths, columnLines, kindAt, isFlow, nextAt, wholeAt, insideAt, amountFrom, entryAt}
+use Rattle.model.specs.File.{Entry, recordLengths, columnWords, kindAt, isFlow, nextAt, wholeAt, insideAt, amountFrom, entryAt}
 use Rattle.theory.proofs.Lists.{first-before}
 
 -- a word that holds a number for each kind in digits, `bits` bits each; that they are those of a list is computed
@@ -39,10 +39,10 @@ module _ (s : List ℕ) (at : ℕ) where
 
   -- the cell that a record names
   abbrev flow : Entry
-  flow = record { line = cell s (at + 1) - 1; position = cell s (at + 2) - 1; amount = amountFrom s (at + 3) }
+  flow = record { word = cell s (at + 1) - 1; position = cell s (at + 2) - 1; amount = amountFrom s (at + 3) }
 
   abbrev column : Entry
-  column = record { line = cell columnLines (kindAt s at); position = cell s (at + 1) - 1; amount = amountFrom s (at + 2) }
+  column = record { word = cell columnWords (kindAt s at); position = cell s (at + 1) - 1; amount = amountFrom s (at + 2) }
 
   pub entry-flow : kindAt s at ≡ 2 → flow ≡ entryAt s at
   unfolding entryAt

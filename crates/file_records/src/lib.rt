@@ -5,16 +5,16 @@ ghost use Prim.Native.Nat.{ℕ, _+_, _^_, _<_, _≤_};
 ghost use lib.Dec.{eqb, leb};
 ghost use lib.ListN.{length};
 ghost use Rattle.model.specs.Numbers.{cell};
-ghost use Rattle.model.specs.File.{recordLengths, columnLines, wholeAt, insideAt, amountFrom, entryAt};
+ghost use Rattle.model.specs.File.{recordLengths, columnWords, wholeAt, insideAt, amountFrom, entryAt};
 ghost use Rattle.file_records.specs.Bodies.{Body, Sectors};
 ghost use Rattle.file_records.specs.Marks.{marked};
 
 // Bytes of a record by its kind, the kind byte counted; 0 where there is no such kind. One word with a digit of base 16 for each kind, from
 // the right: an array would be made anew at each record.
-const LENGTHS: usize = 0x6_1_6_6_6_6_6_7_2_0;
+const RECORD_LENGTHS: usize = 0x6_1_6_6_6_6_6_7_2_0;
 
-// The line of a column by its kind, in two digits of base 8 for each kind.
-const LINES: usize = 0o55_00_54_53_52_51_50_00_00_00;
+// The word of a column by its kind, in two digits of base 8 for each kind.
+const COLUMN_WORDS: usize = 0o55_00_54_53_52_51_50_00_00_00;
 
 // A byte at the wider types.
 pub fn wide(b: u8) -> usize
@@ -34,17 +34,17 @@ pub fn record_length(kind: u8) -> usize
 {
     let k = wide(kind);
     if k < 10 {
-        return (LENGTHS >> (4 * k)) % 16;
+        return (RECORD_LENGTHS >> (4 * k)) % 16;
     }
     0
 }
 
-fn column_line(kind: u8) -> usize
-    ensures { λ r. ⌜ r ≡ cell columnLines kind ⌝ }
+fn column_word(kind: u8) -> usize
+    ensures { λ r. ⌜ r ≡ cell columnWords kind ⌝ }
 {
     let k = wide(kind);
     if k < 10 {
-        return (LINES >> (6 * k)) % 64;
+        return (COLUMN_WORDS >> (6 * k)) % 64;
     }
     0
 }
@@ -98,15 +98,15 @@ fn amount_from(s: &[u8], k: usize) -> u64
     ((a * 256 + b) * 256 + c) * 256 + d
 }
 
-// The cell that a record names: its line, its position and its amount.
-pub fn line_at(s: &[u8], at: usize) -> usize
+// The cell that a record names: its word, its position and its amount.
+pub fn word_at(s: &[u8], at: usize) -> usize
     requires { ⌜ Body (now s) at × Sectors (now s) at ⌝ }
-    ensures { λ r. ⌜ r ≡ entryAt (now (s .entry)) at .line ⌝ }
+    ensures { λ r. ⌜ r ≡ entryAt (now (s .entry)) at .word ⌝ }
 {
     if s[at] == 2 {
         return wide(s[at + 1]) - 1;
     }
-    column_line(s[at])
+    column_word(s[at])
 }
 
 pub fn position_at(s: &[u8], at: usize) -> usize
@@ -130,18 +130,18 @@ pub fn amount_at(s: &[u8], at: usize) -> u64
 }
 
 // Was the cell named before?
-pub fn is_marked(marks: &[u64], line: usize, position: usize) -> bool
-    requires { ⌜ (line < length (now marks)) × (position < 64) ⌝ }
-    ensures { λ r. ⌜ r ≡ marked (now (marks .entry)) line position ⌝ }
+pub fn is_marked(marks: &[u64], word: usize, position: usize) -> bool
+    requires { ⌜ (word < length (now marks)) × (position < 64) ⌝ }
+    ensures { λ r. ⌜ r ≡ marked (now (marks .entry)) word position ⌝ }
 {
-    (marks[line] >> position) % 2 == 1
+    (marks[word] >> position) % 2 == 1
 }
 
 // Marks a cell, and no other.
-pub fn mark(marks: &mut [u64], line: usize, position: usize)
-    requires { ⌜ (line < length (now marks)) × (position < 64) ⌝ }
-    ensures { λ _. ⌜ ((i k : ℕ) → marked (now (marks .exit)) i k ≡ (eqb line i && eqb position k || marked (now (marks .entry)) i k)) ⌝ }
+pub fn mark(marks: &mut [u64], word: usize, position: usize)
+    requires { ⌜ (word < length (now marks)) × (position < 64) ⌝ }
+    ensures { λ _. ⌜ ((i k : ℕ) → marked (now (marks .exit)) i k ≡ (eqb word i && eqb position k || marked (now (marks .entry)) i k)) ⌝ }
 {
-    let word = marks[line];
-    marks[line] = word | (1u64 << position);
+    let before = marks[word];
+    marks[word] = before | (1u64 << position);
 }

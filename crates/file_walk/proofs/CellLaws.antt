@@ -15,8 +15,8 @@ use Rattle.theory_files.specs.Files.{Within}
 use Rattle.file_walk.specs.Steps.{Held}
 
 -- a row starts at most 1,560 cells in
-pub row-start : (n line : ℕ) → n ≤ 40 → line < n → line * n ≤ 1560
-row-start n line a b = mul-le-mul (let h : line ≤ 39 = omega arith in h) a
+pub row-start : (n word : ℕ) → n ≤ 40 → word < n → word * n ≤ 1560
+row-start n word a b = mul-le-mul (let h : word ≤ 39 = omega arith in h) a
 
 -- a store outside the part of a column
 away : (l : List ℕ) (c i a : ℕ) → (i < c * 40) ⊎ (c * 40 + 40 ≤ i) → take 40 (drop (c * 40) (set l i a)) ≡ take 40 (drop (c * 40) l)
@@ -30,48 +30,48 @@ module _ (n : ℕ) (small : n ≤ 40) (e : Entry) (w : Within n e) (es : List En
   abbrev after : Reading
   after = Reading.table n (e ∷ es)
 
-  pub store-flow : e .line < 40 → Held after (set l (e .line * n + e .position) (e .amount))
+  pub store-flow : e .word < 40 → Held after (set l (e .word * n + e .position) (e .amount))
   store-flow r =
       let p = w .place in
-      let q = row-start n (e .line) small (w .row r) in
+      let q = row-start n (e .word) small (w .row r) in
       record {
         flows =
-            take-set-lt 1600 l (e .line * n + e .position) (e .amount) (omega arith)
-            ∙ ap (λ (k : List ℕ). set k (e .line * n + e .position) (e .amount)) (h .flows)
-            ∙ sym (ap (λ (b : Bool). cond b (set (flowsOf n es) (e .line * n + e .position) (e .amount)) (flowsOf n es)) (lt-ltb (e .line) 40 r));
+            take-set-lt 1600 l (e .word * n + e .position) (e .amount) (omega arith)
+            ∙ ap (λ (k : List ℕ). set k (e .word * n + e .position) (e .amount)) (h .flows)
+            ∙ sym (ap (λ (b : Bool). cond b (set (flowsOf n es) (e .word * n + e .position) (e .amount)) (flowsOf n es)) (lt-ltb (e .word) 40 r));
         columns = λ c lo hi.
-            away l c (e .line * n + e .position) (e .amount) (inl (omega arith)) ∙ h .columns c lo hi
-            ∙ sym (ap (λ (b : Bool). cond b (set (columnOf c es) (e .position) (e .amount)) (columnOf c es)) (ne-eqb (e .line) c (λ z. omega arith)));
-        long = length-set l (e .line * n + e .position) (e .amount) ∙ h .long;
+            away l c (e .word * n + e .position) (e .amount) (inl (omega arith)) ∙ h .columns c lo hi
+            ∙ sym (ap (λ (b : Bool). cond b (set (columnOf c es) (e .position) (e .amount)) (columnOf c es)) (ne-eqb (e .word) c (λ z. omega arith)));
+        long = length-set l (e .word * n + e .position) (e .amount) ∙ h .long;
       }
 
-  column-part : 40 ≤ e .line → (c : ℕ) → Dec (e .line ≡ c) → Dec (e .line < c) → take 40 (drop (c * 40) l) ≡ columnOf c es
-      → take 40 (drop (c * 40) (set l (e .line * 40 + e .position) (e .amount))) ≡ columnOf c (e ∷ es)
+  column-part : 40 ≤ e .word → (c : ℕ) → Dec (e .word ≡ c) → Dec (e .word < c) → take 40 (drop (c * 40) l) ≡ columnOf c es
+      → take 40 (drop (c * 40) (set l (e .word * 40 + e .position) (e .amount))) ≡ columnOf c (e ∷ es)
   column-part r c (yes q) d ih =
       let p = w .place in
       ap (λ (k : ℕ). take 40 (drop (c * 40) (set l (k * 40 + e .position) (e .amount)))) q
       ∙ ap (take 40) (drop-set-add (c * 40) l (e .position) (e .amount))
       ∙ take-set-lt 40 (drop (c * 40) l) (e .position) (e .amount) (omega arith)
       ∙ ap (λ (k : List ℕ). set k (e .position) (e .amount)) ih
-      ∙ sym (ap (λ (b : Bool). cond b (set (columnOf c es) (e .position) (e .amount)) (columnOf c es)) (eq-eqb (e .line) c q))
+      ∙ sym (ap (λ (b : Bool). cond b (set (columnOf c es) (e .position) (e .amount)) (columnOf c es)) (eq-eqb (e .word) c q))
   column-part r c (no q) d ih =
-      away l c (e .line * 40 + e .position) (e .amount) (side d) ∙ ih
-      ∙ sym (ap (λ (b : Bool). cond b (set (columnOf c es) (e .position) (e .amount)) (columnOf c es)) (ne-eqb (e .line) c q))
+      away l c (e .word * 40 + e .position) (e .amount) (side d) ∙ ih
+      ∙ sym (ap (λ (b : Bool). cond b (set (columnOf c es) (e .position) (e .amount)) (columnOf c es)) (ne-eqb (e .word) c q))
     where
       more-than : (a b : ℕ) → (a ≡ b → ⊥) → b ≤ a → b < a
       more-than a b f k = omega arith
 
-      side : Dec (e .line < c) → (e .line * 40 + e .position < c * 40) ⊎ (c * 40 + 40 ≤ e .line * 40 + e .position)
+      side : Dec (e .word < c) → (e .word * 40 + e .position < c * 40) ⊎ (c * 40 + 40 ≤ e .word * 40 + e .position)
       side (yes z) = inl (let p = w .place in omega arith)
-      side (no z) = inr (let y : c < e .line = more-than (e .line) c q (omega arith) in omega arith)
+      side (no z) = inr (let y : c < e .word = more-than (e .word) c q (omega arith) in omega arith)
 
-  pub store-column : 40 ≤ e .line → Held after (set l (e .line * 40 + e .position) (e .amount))
+  pub store-column : 40 ≤ e .word → Held after (set l (e .word * 40 + e .position) (e .amount))
   store-column r = record {
     flows =
-        take-set-le 1600 l (e .line * 40 + e .position) (e .amount) (omega arith) ∙ h .flows
-        ∙ sym (ap (λ (b : Bool). cond b (set (flowsOf n es) (e .line * n + e .position) (e .amount)) (flowsOf n es)) (le-ltb (e .line) 40 r));
-    columns = λ c lo hi. column-part r c (ℕ-discrete (e .line) c) (decLt (e .line) c) (h .columns c lo hi);
-    long = length-set l (e .line * 40 + e .position) (e .amount) ∙ h .long;
+        take-set-le 1600 l (e .word * 40 + e .position) (e .amount) (omega arith) ∙ h .flows
+        ∙ sym (ap (λ (b : Bool). cond b (set (flowsOf n es) (e .word * n + e .position) (e .amount)) (flowsOf n es)) (le-ltb (e .word) 40 r));
+    columns = λ c lo hi. column-part r c (ℕ-discrete (e .word) c) (decLt (e .word) c) (h .columns c lo hi);
+    long = length-set l (e .word * 40 + e .position) (e .amount) ∙ h .long;
   }
 
 -- cells of 0

@@ -16,28 +16,28 @@ use Rattle.file_walk.specs.Steps.{Held, Agrees, Kept, Names, Asked, Acce
 use Rattle.file_walk.proofs.WalkLaws.{one-more}
 use Rattle.file_walk.proofs.CellLaws.{held-none, held-refused}
 
--- a cell by its line, its position and its amount
-pub as-entry : (e : Entry) (l p a : ℕ) → l ≡ e .line → p ≡ e .position → a ≡ e .amount → record { line = l; position = p; amount = a } ≡ e
+-- a cell by its word, its position and its amount
+pub as-entry : (e : Entry) (l p a : ℕ) → l ≡ e .word → p ≡ e .position → a ≡ e .amount → record { word = l; position = p; amount = a } ≡ e
 as-entry e l p a x y z =
-    ap (λ (k : ℕ). record { line = k; position = p; amount = a }) x
-    ∙ ap (λ (k : ℕ). record { line = e .line; position = k; amount = a }) y
-    ∙ ap (λ (k : ℕ). record { line = e .line; position = e .position; amount = k }) z
+    ap (λ (k : ℕ). record { word = k; position = p; amount = a }) x
+    ∙ ap (λ (k : ℕ). record { word = e .word; position = k; amount = a }) y
+    ∙ ap (λ (k : ℕ). record { word = e .word; position = e .position; amount = k }) z
 
 -- a cell that is marked and stored
 pub keeps :
     (n : ℕ) (es : List Entry) (cells marks cells' marks' : List ℕ) (e : Entry)
-    → ((i k : ℕ) → marked marks' i k ≡ (eqb (e .line) i && eqb (e .position) k || marked marks i k))
+    → ((i k : ℕ) → marked marks' i k ≡ (eqb (e .word) i && eqb (e .position) k || marked marks i k))
     → (Held (Reading.table n es) cells → Held (Reading.table n (e ∷ es)) cells') → length marks' ≡ 46 → Kept n es cells marks → Kept n (e ∷ es) cells' marks'
 keeps n es cells marks cells' marks' e m h w k = record {
   held = h (k .held);
   agrees = record {
-    same = λ d. m (d .line) (d .position) ∙ ap (λ (b : Bool). eqb (e .line) (d .line) && eqb (e .position) (d .position) || b) (k .agrees .same d);
+    same = λ d. m (d .word) (d .position) ∙ ap (λ (b : Bool). eqb (e .word) (d .word) && eqb (e .position) (d .position) || b) (k .agrees .same d);
     words = w;
   };
 }
 
 -- the step at a record whose cell is e, by the cell's three numbers
-pub takes : (s : List ℕ) (n at : ℕ) (marks : List ℕ) (e : Entry) (l p a next : ℕ) → l ≡ e .line → p ≡ e .position → a ≡ e .amount
+pub takes : (s : List ℕ) (n at : ℕ) (marks : List ℕ) (e : Entry) (l p a next : ℕ) → l ≡ e .word → p ≡ e .position → a ≡ e .amount
     → ((fuel : ℕ) (es : List Entry) → Agrees es marks → walk (suc fuel) s n es at ≡ walk fuel s n (e ∷ es) next) → Names s n at e next
     → Asked s n at marks (Cell l p a next)
 takes s n at marks e l p a next x y z w m =
@@ -48,7 +48,7 @@ pub keeps-none : (n : ℕ) (cells marks : List ℕ) → cells ≡ replicate 1840
 keeps-none n cells marks x y = record {
   held = held-none cells x n;
   agrees = record {
-    same = λ d. ap (λ (l : List ℕ). marked l (d .line) (d .position)) y ∙ marked-none 46 (d .line) (d .position);
+    same = λ d. ap (λ (l : List ℕ). marked l (d .word) (d .position)) y ∙ marked-none 46 (d .word) (d .position);
     words = ap length y ∙ length-replicate {A = ℕ} 46 0;
   };
 }
@@ -95,7 +95,7 @@ module _ (s : List ℕ) (n : ℕ) (cells marks : List ℕ) (at count : ℕ) (w :
   }
 
   pub goes-on :
-      (e : Entry) (next : ℕ) (cells' marks' : List ℕ) → Asked s n at marks (Cell (e .line) (e .position) (e .amount) next)
+      (e : Entry) (next : ℕ) (cells' marks' : List ℕ) → Asked s n at marks (Cell (e .word) (e .position) (e .amount) next)
       → ((es : List Entry) → Kept n es cells marks → Kept n (e ∷ es) cells' marks') → Walking s n cells' marks' next (count + 1)
   goes-on e next cells' marks' t k =
       let o = t .1 .onward in
@@ -113,9 +113,9 @@ module _ (s : List ℕ) (n : ℕ) (cells marks : List ℕ) (at count : ℕ) (w :
       }
 
 -- the answer, and the cells after it
-pub settled-refused : (o : Reading) (q p : ℕ) (cells : List ℕ) → o ≡ Reading.refused q p → cells ≡ replicate 1840 0 → (Refused q p ≡ answerOf o) × Held o cells
-settled-refused o q p cells e z = (ap answerOf (sym e), subst (λ (r : Reading). Held r cells) (sym e) (held-refused cells z q p))
+pub cleared-refused : (o : Reading) (q p : ℕ) (cells : List ℕ) → o ≡ Reading.refused q p → cells ≡ replicate 1840 0 → (Refused q p ≡ answerOf o) × Held o cells
+cleared-refused o q p cells e z = (ap answerOf (sym e), subst (λ (r : Reading). Held r cells) (sym e) (held-refused cells z q p))
 
-pub settled-read : (o : Reading) (n k : ℕ) (cells : List ℕ) → Accepts o n k cells → (Read n k ≡ answerOf o) × Held o cells
-settled-read o n k cells a =
+pub cleared-read : (o : Reading) (n k : ℕ) (cells : List ℕ) → Accepts o n k cells → (Read n k ≡ answerOf o) × Held o cells
+cleared-read o n k cells a =
     (ap (Read n) (a .counted) ∙ ap answerOf (sym (a .same)), subst (λ (r : Reading). Held r cells) (sym (a .same)) (a .held))

@@ -10,7 +10,7 @@ use borrow.Author.Tests.{leb-true, eqb-true}
 use lib.Dec.{leb, lit<, lit≤}
 use lib.ListN.{length}
 use Rattle.model.specs.Numbers.{cell}
-use Rattle.model.specs.File.{recordLengths, columnLines, kindAt, nextAt, wholeAt, insideAt, entryAt}
+use Rattle.model.specs.File.{recordLengths, columnWords, kindAt, nextAt, wholeAt, insideAt, entryAt}
 use Rattle.theory.proofs.Lists.{and-true}
 use Rattle.file_records.specs.Bodies.{Body, Sectors}
 use Rattle.file_records.proofs.RecordLaws.{sector, inside-by, inside-flow, entry-flow, entry-column}
@@ -20,8 +20,8 @@ use Rattle.file_walk.specs.Steps.{Begun, Naming, Names}
 -- what is known of a kind that names a cell of a column
 pub record Column (kind : ℕ) : Type 0 where
   pub size : cell recordLengths kind ≡ 6
-  pub low : 40 ≤ cell columnLines kind
-  pub high : cell columnLines kind < 46
+  pub low : 40 ≤ cell columnWords kind
+  pub high : cell columnWords kind < 46
 
 column : (kind : ℕ) → 1 ≤ cell recordLengths kind → (kind ≡ 1 → ⊥) → (kind ≡ 2 → ⊥) → (kind ≡ 8 → ⊥) → Column kind
 column zero l a b e = absurd (not-suc-le-zero l)

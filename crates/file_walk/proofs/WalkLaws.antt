@@ -7,7 +7,7 @@ use native.Mathlib.Omega.{arith}
 use borrow.Author.Tests.{lt-leb, le-leb, eq-eqb, ne-eqb}
 use lib.ListN.{length}
 use Rattle.model.specs.Numbers.{cell}
-use Rattle.model.specs.File.{Entry, kindAt, nextAt, wholeAt, insideAt, entryAt, named, Reading, walk, reading}
+use Rattle.model.specs.File.{Entry, kindAt, nextAt, wholeAt, insideAt, entryAt, namedBefore, Reading, walk, reading}
 use Rattle.file_walk.specs.Steps.{Begun, Naming}
 
 module _ (s : List ℕ) (n at fuel : ℕ) (es : List Entry) where
@@ -44,12 +44,12 @@ module _ (s : List ℕ) (n at fuel : ℕ) (es : List Entry) where
           rw (lt-leb (length s) at (b .inside), b .whole, ne-eqb (kindAt s at) 1 (m .not-first), ne-eqb (kindAt s at) 8 (m .not-end), i) refl
 
       module _ (i : insideAt s at n ≡ true) where
-        pub twice : named es (entryAt s at) ≡ true → here ≡ Reading.refused 14 at
+        pub twice : namedBefore es (entryAt s at) ≡ true → here ≡ Reading.refused 14 at
         unfolding walk
         twice d =
             rw (lt-leb (length s) at (b .inside), b .whole, ne-eqb (kindAt s at) 1 (m .not-first), ne-eqb (kindAt s at) 8 (m .not-end), i, d) refl
 
-        pub fresh : named es (entryAt s at) ≡ false → here ≡ walk fuel s n (entryAt s at ∷ es) (nextAt s at)
+        pub fresh : namedBefore es (entryAt s at) ≡ false → here ≡ walk fuel s n (entryAt s at ∷ es) (nextAt s at)
         unfolding walk
         fresh d =
             rw (lt-leb (length s) at (b .inside), b .whole, ne-eqb (kindAt s at) 1 (m .not-first), ne-eqb (kindAt s at) 8 (m .not-end), i, d) refl

@@ -1,11 +1,11 @@
--- What the functions of the walk owe each other. The cells lie in one list of 1,840: the 1,600 of x, then 40 for each of six columns, so that line c of
+-- What the functions of the walk owe each other. The cells lie in one list of 1,840: the 1,600 of x, then 40 for each of six columns, so that word c of
 -- a column starts at c × 40.
 use mathlib.Core.Bool.{true}
 use mathlib.Core.List.{List, [], _∷_}
 use mathlib.Core.Path.{_≡_}
 use Prim.Native.Nat.{ℕ, suc, _*_, _≤_, _<_}
 use lib.ListN.{length, take, drop}
-use Rattle.model.specs.File.{Entry, kindAt, wholeAt, named, Reading, walk, reading, flowsRead, columnRead}
+use Rattle.model.specs.File.{Entry, kindAt, wholeAt, namedBefore, Reading, walk, reading, flowsRead, columnRead}
 use Rattle.model.specs.declared.TableRead.{TableRead}
 use Rattle.model.specs.declared.TableRead.the-variants.{Read, Refused}
 use Rattle.theory_files.specs.Files.{Within}
@@ -21,7 +21,7 @@ pub record Held (o : Reading) (cells : List ℕ) : Type 0 where
 
 -- the marks are those of the named cells
 pub record Agrees (es : List Entry) (marks : List ℕ) : Type 0 where
-  pub same : (e : Entry) → marked marks (e .line) (e .position) ≡ named es e
+  pub same : (e : Entry) → marked marks (e .word) (e .position) ≡ namedBefore es e
   pub words : length marks ≡ 46
 
 -- both, of the cells named so far in a table of n sectors
@@ -49,8 +49,8 @@ pub record Names (s : List ℕ) (n at : ℕ) (e : Entry) (next : ℕ) : Type 0 w
 abbrev pub Asked : List ℕ → ℕ → ℕ → List ℕ → Step → Type 0
 Asked s n at marks (Stop q p) = (fuel : ℕ) (es : List Entry) → Agrees es marks → walk (suc fuel) s n es at ≡ Reading.refused q p
 Asked s n at marks End = (fuel : ℕ) (es : List Entry) → Agrees es marks → walk (suc fuel) s n es at ≡ Reading.table n es
-Asked s n at marks (Cell line position amount next) =
-    let e : Entry = record { line = line; position = position; amount = amount } in
+Asked s n at marks (Cell word position amount next) =
+    let e : Entry = record { word = word; position = position; amount = amount } in
     ((fuel : ℕ) (es : List Entry) → Agrees es marks → walk (suc fuel) s n es at ≡ walk fuel s n (e ∷ es) next) × Names s n at e next
 
 -- the reading is a table of n sectors with k named cells, and the list holds them

@@ -4,11 +4,11 @@ use file_records::amount_at;
 use file_records::is_inside;
 use file_records::is_marked;
 use file_records::is_whole;
-use file_records::line_at;
 use file_records::mark;
 use file_records::position_at;
 use file_records::record_length;
 use file_records::wide;
+use file_records::word_at;
 use model::TableRead;
 ghost use mathlib.Core.List.{List, [], _∷_};
 ghost use mathlib.Core.Path.{_≡_};
@@ -26,7 +26,7 @@ pub enum Step {
     },
     End,
     Cell {
-        line: usize,
+        word: usize,
         position: usize,
         amount: u64,
         next: usize,
@@ -48,7 +48,7 @@ fn end_at(file: &[u8], at: usize) -> Step
 }
 
 // Questions 13 and 14 of a record that names a cell.
-fn cell_at(file: &[u8], at: usize, n: usize, marks: &[u64]) -> Step
+fn ask_cell(file: &[u8], at: usize, n: usize, marks: &[u64]) -> Step
     requires { ⌜ (n ≤ 40) × (length (now marks) ≡ 46) × Begun (now file) at × Naming (now file) at ⌝ }
     ensures { λ r. ⌜ Asked (now (file .entry)) n at (now (marks .entry)) r ⌝ }
 {
@@ -58,16 +58,16 @@ fn cell_at(file: &[u8], at: usize, n: usize, marks: &[u64]) -> Step
             place: at,
         };
     }
-    let line = line_at(file, at);
+    let word = word_at(file, at);
     let position = position_at(file, at);
-    if is_marked(marks, line, position) {
+    if is_marked(marks, word, position) {
         return Step::Stop {
             number: 14,
             place: at,
         };
     }
     Step::Cell {
-        line,
+        word,
         position,
         amount: amount_at(file, at),
         next: at + record_length(file[at]),
@@ -100,28 +100,28 @@ fn ask(file: &[u8], at: usize, n: usize, marks: &[u64]) -> Step
     if file[at] == 8 {
         return end_at(file, at);
     }
-    cell_at(file, at, n, marks)
+    ask_cell(file, at, n, marks)
 }
 
-// Stores an amount in the cell of a line and a position.
-fn store(cells: &mut [u64], n: usize, line: usize, position: usize, amount: u64)
-    requires { ⌜ (n ≤ 40) × (length (now cells) ≡ 1840) × Within n (record { line = line; position = position; amount = amount }) ⌝ }
-    ensures { λ _. ⌜ ((es : List Entry) → Held (Reading.table n es) (now (cells .entry)) → Held (Reading.table n (record { line = line; position = position; amount = amount } ∷ es)) (now (cells .exit))) ⌝ }
+// Stores an amount in the cell of a word and a position.
+fn store(cells: &mut [u64], n: usize, word: usize, position: usize, amount: u64)
+    requires { ⌜ (n ≤ 40) × (length (now cells) ≡ 1840) × Within n (record { word = word; position = position; amount = amount }) ⌝ }
+    ensures { λ _. ⌜ ((es : List Entry) → Held (Reading.table n es) (now (cells .entry)) → Held (Reading.table n (record { word = word; position = position; amount = amount } ∷ es)) (now (cells .exit))) ⌝ }
 {
-    if line < 40 {
-        cells[line * n + position] = amount;
+    if word < 40 {
+        cells[word * n + position] = amount;
         return;
     }
-    cells[line * 40 + position] = amount;
+    cells[word * 40 + position] = amount;
 }
 
 // Marks and stores a named cell.
-fn keep(n: usize, line: usize, position: usize, amount: u64, cells: &mut [u64], marks: &mut [u64])
-    requires { ⌜ (n ≤ 40) × (length (now cells) ≡ 1840) × (length (now marks) ≡ 46) × Within n (record { line = line; position = position; amount = amount }) ⌝ }
-    ensures { λ _. ⌜ ((es : List Entry) → Kept n es (now (cells .entry)) (now (marks .entry)) → Kept n (record { line = line; position = position; amount = amount } ∷ es) (now (cells .exit)) (now (marks .exit))) ⌝ }
+fn keep(n: usize, word: usize, position: usize, amount: u64, cells: &mut [u64], marks: &mut [u64])
+    requires { ⌜ (n ≤ 40) × (length (now cells) ≡ 1840) × (length (now marks) ≡ 46) × Within n (record { word = word; position = position; amount = amount }) ⌝ }
+    ensures { λ _. ⌜ ((es : List Entry) → Kept n es (now (cells .entry)) (now (marks .entry)) → Kept n (record { word = word; position = position; amount = amount } ∷ es) (now (cells .exit)) (now (marks .exit))) ⌝ }
 {
-    mark(marks, line, position);
-    store(cells, n, line, position, amount);
+    mark(marks, word, position);
+    store(cells, n, word, position, amount);
 }
 
 // The records after the first.
@@ -137,12 +137,12 @@ fn walk(file: &[u8], n: usize, cells: &mut [u64], marks: &mut [u64]) -> TableRea
             Step::Stop { number, place } => return TableRead::Refused { number, place },
             Step::End => return TableRead::Read { sectors: n, named },
             Step::Cell {
-                line,
+                word,
                 position,
                 amount,
                 next,
             } => {
-                keep(n, line, position, amount, cells, marks);
+                keep(n, word, position, amount, cells, marks);
                 named += 1;
                 at = next;
             }
@@ -204,7 +204,7 @@ fn walk_file(file: &[u8], cells: &mut [u64], marks: &mut [u64]) -> TableRead
 }
 
 // After a refusal the cells are 0.
-fn settle(answer: TableRead, cells: &mut [u64]) -> TableRead
+fn clear_refused(answer: TableRead, cells: &mut [u64]) -> TableRead
     requires { ⌜ length (now cells) ≡ 1840 ⌝ }
     ensures { λ r. ⌜ ((o : Reading) → Ends o «answer» (now (cells .entry)) → (r ≡ answerOf o) × Held o (now (cells .exit))) ⌝ }
 {
@@ -225,5 +225,5 @@ pub fn read_flat(file: &[u8], cells: &mut [u64], marks: &mut [u64]) -> TableRead
     fill_zero(marks);
     let answer = walk_file(file, cells, marks);
     fill_zero(marks);
-    settle(answer, cells)
+    clear_refused(answer, cells)
 }

@@ -18,7 +18,7 @@ ghost use Rattle.model.specs.Calls.{inducedReport};
 ghost use Rattle.model.specs.Contracts.{Induced};
 
 // Question 3: shares within one, amounts within 1,000,000,000.
-fn check_amounts(n: usize, a: &[u64], m: &[u64], v: &[u64], final_demand: &[u64]) -> Answer
+fn check_shares(n: usize, a: &[u64], m: &[u64], v: &[u64], final_demand: &[u64]) -> Answer
     requires { ⌜ (n ≤ 40) × (length (now a) ≡ n * n) × (length (now m) ≡ n) × (length (now v) ≡ n) × (length (now «final_demand») ≡ n) ⌝ }
     ensures { λ r. ⌜ report r ≡ verdict (inducedAmounts n (now (a .entry)) (now (m .entry)) (now (v .entry)) (now («final_demand» .entry))) [] ⌝ }
 {
@@ -41,7 +41,14 @@ fn fill_value_added(n: usize, v: &[u64], y: &[u64], out: &mut [u64])
 }
 
 // Induced imports: each sector's import share of what industry and final demand need of it.
-fn fill_imports(n: usize, a: &[u64], m: &[u64], final_demand: &[u64], y: &[u64], out: &mut [u64])
+fn fill_induced_imports(
+    n: usize,
+    a: &[u64],
+    m: &[u64],
+    final_demand: &[u64],
+    y: &[u64],
+    out: &mut [u64],
+)
     requires { ⌜ (length (now a) ≡ n * n) × (length (now m) ≡ n) × (length (now «final_demand») ≡ n) × (length (now y) ≡ n) × (length (now out) ≡ n) ⌝ }
     requires { ⌜ ((i : ℕ) → i < n * n → cell (now a) i ≤ one) ⌝ }
     requires { ⌜ ((i : ℕ) → i < n → cell (now m) i ≤ one) ⌝ }
@@ -81,7 +88,7 @@ fn check_induced(
     if let Answer::Refused { number, place } = sizes {
         return Answer::Refused { number, place };
     }
-    let amounts = check_amounts(n, a, m, v, final_demand);
+    let amounts = check_shares(n, a, m, v, final_demand);
     if let Answer::Refused { number, place } = amounts {
         return Answer::Refused { number, place };
     }
@@ -120,7 +127,7 @@ pub fn induced(
         }
         Answer::Accepted => {
             fill_value_added(n, v, production, value);
-            fill_imports(n, a, m, final_demand, production, imports);
+            fill_induced_imports(n, a, m, final_demand, production, imports);
             Answer::Accepted
         }
     }

@@ -5,18 +5,18 @@ use Prim.Native.Nat.{ℕ}
 use lib.ListN.{length, take}
 use Rattle.model.specs.File.{Entry, encode, fileOf, wholeAt, insideAt, entryAt, Reading, walk, reading, flowsOf, columnOf}
 
-abbrev pub named : ℕ → ℕ → ℕ → Entry
-named line position amount = record { line = line; position = position; amount = amount }
+abbrev pub naming : ℕ → ℕ → ℕ → Entry
+naming word position amount = record { word = word; position = position; amount = amount }
 
 -- the worked table, in ascending kind and cell
 abbrev pub entries : List Entry
 entries =
-    named 0 0 100 ∷ named 0 1 400 ∷ named 1 0 300 ∷ named 1 1 600
-    ∷ named 40 0 500 ∷ named 40 1 900
-    ∷ named 41 0 250 ∷ named 41 1 560
-    ∷ named 42 0 250 ∷ named 42 1 360
-    ∷ named 43 0 600 ∷ named 43 1 1000
-    ∷ named 44 0 1000 ∷ named 44 1 2000
+    naming 0 0 100 ∷ naming 0 1 400 ∷ naming 1 0 300 ∷ naming 1 1 600
+    ∷ naming 40 0 500 ∷ naming 40 1 900
+    ∷ naming 41 0 250 ∷ naming 41 1 560
+    ∷ naming 42 0 250 ∷ naming 42 1 360
+    ∷ naming 43 0 600 ∷ naming 43 1 1000
+    ∷ naming 44 0 1000 ∷ naming 44 1 2000
     ∷ []
 
 pub worked-file :
@@ -60,7 +60,7 @@ rows =
     ∷ (1 ∷ 2 ∷ 2 ∷ 1 ∷ 3 ∷ 0 ∷ 0 ∷ 0 ∷ 5 ∷ 8 ∷ []) ⊳ Reading.refused 13 2
     -- 14: a cell named twice, also with 0; naming a 0 is allowed
     ∷ (1 ∷ 2 ∷ 3 ∷ 1 ∷ 0 ∷ 0 ∷ 0 ∷ 0 ∷ 3 ∷ 1 ∷ 0 ∷ 0 ∷ 0 ∷ 0 ∷ 8 ∷ []) ⊳ Reading.refused 14 8
-    ∷ (1 ∷ 2 ∷ 3 ∷ 1 ∷ 0 ∷ 0 ∷ 0 ∷ 0 ∷ 8 ∷ []) ⊳ Reading.table 2 (named 40 0 0 ∷ [])
+    ∷ (1 ∷ 2 ∷ 3 ∷ 1 ∷ 0 ∷ 0 ∷ 0 ∷ 0 ∷ 8 ∷ []) ⊳ Reading.table 2 (naming 40 0 0 ∷ [])
     ∷ []
 
 pub refusals : map (λ (r : Row). reading (r .file)) rows ≡ map (λ (r : Row). r .stated) rows

@@ -9,7 +9,7 @@ use Rattle.model.specs.File.{encode, fileOf, wholeAt, insideAt, entryAt,
 use Rattle.model.specs.Bytes.{bytes}
 use Rattle.model.specs.Text.{digits}
 use Rattle.model.specs.Page.{refusalLine, tablePage, page}
-use Rattle.model.proofs.WorkedFile.{named, entries}
+use Rattle.model.proofs.WorkedFile.{naming, entries}
 
 -- a file, and the bytes of its page as the paper prints them
 pub record Row : Type 0 where
@@ -27,9 +27,9 @@ pages =
     -- the empty file
     ∷ [] ⊳ bytes "refused 15 0\n"
     -- sector 2 makes 1
-    ∷ fileOf 2 (named 44 1 1 ∷ []) ⊳ bytes "refused 4 1\n"
+    ∷ fileOf 2 (naming 44 1 1 ∷ []) ⊳ bytes "refused 4 1\n"
     -- sector 1 exports 1,000,000,001, in cell 6 of the table
-    ∷ fileOf 2 (named 41 0 1_000_000_001 ∷ []) ⊳ bytes "refused 3 6\n"
+    ∷ fileOf 2 (naming 41 0 1_000_000_001 ∷ []) ⊳ bytes "refused 3 6\n"
     -- a table of one sector and zeros
     ∷ fileOf 1 [] ⊳ bytes "sector demand production value imports\n1 0 0 0 0\nrounds 1\n"
     ∷ []

@@ -8,9 +8,9 @@ use Rattle.model.specs.Numbers.{all, cell}
 use Rattle.model.specs.declared.TableRead.{TableRead}
 use Rattle.model.specs.declared.TableRead.the-variants.{Read, Refused}
 
--- A named cell. Lines 0 to 39 are the rows of x, with their columns for positions; lines 40 to 45 are F, E, M, V, X and the rises, with their sectors
+-- A named cell. Words 0 to 39 are the rows of x, with their columns for positions; words 40 to 45 are F, E, M, V, X and the rises, with their sectors
 pub record Entry : Type 0 where
-  pub line : ℕ
+  pub word : ℕ
   pub position : ℕ
   pub amount : ℕ
 
@@ -19,11 +19,11 @@ pub record Entry : Type 0 where
 abbrev pub recordLengths : List ℕ
 recordLengths = 0 ∷ 2 ∷ 7 ∷ 6 ∷ 6 ∷ 6 ∷ 6 ∷ 6 ∷ 1 ∷ 6 ∷ []
 
--- "Kinds 3 to 7: F, E, M, V, X in that order. Kind 9": the line of a column by its kind
-abbrev pub columnLines : List ℕ
-columnLines = 0 ∷ 0 ∷ 0 ∷ 40 ∷ 41 ∷ 42 ∷ 43 ∷ 44 ∷ 0 ∷ 45 ∷ []
+-- "Kinds 3 to 7: F, E, M, V, X in that order. Kind 9": the word of a column by its kind
+abbrev pub columnWords : List ℕ
+columnWords = 0 ∷ 0 ∷ 0 ∷ 40 ∷ 41 ∷ 42 ∷ 43 ∷ 44 ∷ 0 ∷ 45 ∷ []
 
--- and the kind of a column by its line, from line 40 on
+-- and the kind of a column by its word, from word 40 on
 abbrev pub columnKinds : List ℕ
 columnKinds = 3 ∷ 4 ∷ 5 ∷ 6 ∷ 7 ∷ 9 ∷ []
 
@@ -34,8 +34,8 @@ amountBytes a = (a / 16777216) ∷ (a / 65536 % 256) ∷ (a / 256 % 256) ∷ (a 
 -- a record: "Kind 2: row, column, amount of x", the other kinds sector and amount; "sector bytes run from 1"
 unfoldable pub encode : Entry → List ℕ
 encode e =
-    cond (ltb (e .line) 40) (2 ∷ (e .line + 1) ∷ (e .position + 1) ∷ amountBytes (e .amount))
-    (cell columnKinds (e .line - 40) ∷ (e .position + 1) ∷ amountBytes (e .amount))
+    cond (ltb (e .word) 40) (2 ∷ (e .word + 1) ∷ (e .position + 1) ∷ amountBytes (e .amount))
+    (cell columnKinds (e .word - 40) ∷ (e .position + 1) ∷ amountBytes (e .amount))
 
 -- records one after the other
 abbrev pub encodeAll : List Entry → List ℕ
@@ -78,13 +78,13 @@ module _ (s : List ℕ) (at : ℕ) where
   unfoldable pub entryAt : Entry
   unfolding amountFrom
   entryAt =
-      cond isFlow (record { line = cell s (at + 1) - 1; position = cell s (at + 2) - 1; amount = amountFrom s (at + 3) })
-      (record { line = cell columnLines kindAt; position = cell s (at + 1) - 1; amount = amountFrom s (at + 2) })
+      cond isFlow (record { word = cell s (at + 1) - 1; position = cell s (at + 2) - 1; amount = amountFrom s (at + 3) })
+      (record { word = cell columnWords kindAt; position = cell s (at + 1) - 1; amount = amountFrom s (at + 2) })
 
 -- 14. the cell was named before
-abbrev pub named : List Entry → Entry → Bool
-named [] e = false
-named (f ∷ es) e = eqb (f .line) (e .line) && eqb (f .position) (e .position) || named es e
+abbrev pub namedBefore : List Entry → Entry → Bool
+namedBefore [] e = false
+namedBefore (f ∷ es) e = eqb (f .word) (e .word) && eqb (f .position) (e .position) || namedBefore es e
 
 -- ---- the reader's walk
 -- what a file comes to: a refusal, or n and the named cells, the last one first
@@ -112,7 +112,7 @@ walk (suc fuel) s n es at =
     (cond (eqb (kindAt s at) 8)
     (require (eqb (at + 1) (length s)) 15 (at + 1) (Reading.table n es))
     (require (insideAt s at n) 13 at
-    (refuseIf (named es (entryAt s at)) 14 at onward)))))
+    (refuseIf (namedBefore es (entryAt s at)) 14 at onward)))))
 
 -- The whole file: 12 asks that the first record is kind 1 with n from 1 to 40. The empty file gives 15 at 0
 unfoldable pub reading : List ℕ → Reading
@@ -128,12 +128,12 @@ reading s =
 -- x: "row i of x starts at cell i × n"
 abbrev pub flowsOf : ℕ → List Entry → List ℕ
 flowsOf n [] = replicate 1600 0
-flowsOf n (e ∷ es) = cond (ltb (e .line) 40) (set (flowsOf n es) (e .line * n + e .position) (e .amount)) (flowsOf n es)
+flowsOf n (e ∷ es) = cond (ltb (e .word) 40) (set (flowsOf n es) (e .word * n + e .position) (e .amount)) (flowsOf n es)
 
--- a column by its line
+-- a column by its word
 abbrev pub columnOf : ℕ → List Entry → List ℕ
-columnOf line [] = replicate 40 0
-columnOf line (e ∷ es) = cond (eqb (e .line) line) (set (columnOf line es) (e .position) (e .amount)) (columnOf line es)
+columnOf word [] = replicate 40 0
+columnOf word (e ∷ es) = cond (eqb (e .word) word) (set (columnOf word es) (e .position) (e .amount)) (columnOf word es)
 
 -- ---- the reader's call
 -- 2. "1,600 cells for x, 40 for each of six columns, 46 work words": by the lengths of the lent slices
@@ -157,5 +157,5 @@ flowsRead len (Reading.table n es) = flowsOf n es
 
 -- and in the slice that is lent for a column
 abbrev pub columnRead : ℕ → ℕ → Reading → List ℕ
-columnRead line len (Reading.refused q p) = replicate len 0
-columnRead line len (Reading.table n es) = columnOf line es
+columnRead word len (Reading.refused q p) = replicate len 0
+columnRead word len (Reading.table n es) = columnOf word es

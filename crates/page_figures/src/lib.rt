@@ -12,7 +12,7 @@ ghost use Rattle.model.specs.Checks.{report, reportRounds};
 ghost use Rattle.page_figures.specs.Stages.{tableIn, Sheets, Induced, Produced, Figures};
 
 // The sheets of the table of n sectors that lies in the cells.
-fn fill_sheets(
+fn fill_coefficients(
     n: usize,
     cells: &[u64],
     a: &mut [u64],
@@ -108,7 +108,7 @@ fn fill_figures(
     requires { ⌜ (length (now y) ≡ n) × (length (now value) ≡ n) × (length (now imports) ≡ n) ⌝ }
     ensures { λ r. ⌜ Figures (tableIn n (now (cells .entry))) (reportRounds r) (now (f .exit)) (now (y .exit)) (now (value .exit)) (now (imports .exit)) ⌝ }
 {
-    let answer = fill_sheets(n, cells, a, v, m, d, f);
+    let answer = fill_coefficients(n, cells, a, v, m, d, f);
     match answer {
         Answer::Refused { number, place } => Outcome::Refused { number, place },
         Answer::Accepted => fill_produced(

@@ -17,7 +17,7 @@ pub fn put_byte(b: u8, at: usize, out: &mut [u8]) -> usize
 }
 
 // The bytes of a word.
-pub fn put_word(word: &[u8], at: usize, out: &mut [u8]) -> usize
+pub fn put_text(word: &[u8], at: usize, out: &mut [u8]) -> usize
     requires { ⌜ at + length (now word) ≤ length (now out) ⌝ }
     ensures { λ r. ⌜ r ≡ at + length (now (word .entry)) ⌝ }
     ensures { λ _. ⌜ now (out .exit) ≡ sets (now (out .entry)) at (now (word .entry)) ⌝ }

@@ -36,7 +36,7 @@ pub fn fill_shares(n: usize, part: &[u64], whole: &[u64], out: &mut [u64])
 }
 
 // Import shares: imports of the domestic need.
-pub fn fill_imports(n: usize, x: &[u64], final_demand: &[u64], imports: &[u64], m: &mut [u64])
+pub fn fill_import_shares(n: usize, x: &[u64], final_demand: &[u64], imports: &[u64], m: &mut [u64])
     requires { ⌜ (n ≤ 40) × (length (now x) ≡ n * n) × (length (now «final_demand») ≡ n) × (length (now imports) ≡ n) × (length (now m) ≡ n) ⌝ }
     requires { ⌜ ((k : ℕ) → cell (now x) k ≤ amountLimit) ⌝ }
     requires { ⌜ ((k : ℕ) → cell (now «final_demand») k ≤ amountLimit) ⌝ }

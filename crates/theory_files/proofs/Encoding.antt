@@ -10,7 +10,7 @@ use borrow.Author.Tests.{lt-leb, le-leb, leb-true, leb-false, eqb-true, ltb-true
 use lib.Dec.{eqb, leb, ltb}
 use lib.ListN.{length}
 use Rattle.model.specs.Numbers.{first, cell}
-use Rattle.model.specs.File.{Entry, recordLengths, columnLines, columnKinds, amountBytes, encode, amountFrom, kindAt, wholeAt, insideAt, entryAt, named, Reading, walk}
+use Rattle.model.specs.File.{Entry, recordLengths, columnWords, columnKinds, amountBytes, encode, amountFrom, kindAt, wholeAt, insideAt, entryAt, namedBefore, Reading, walk}
 use Rattle.theory_files.specs.Files.{Within}
 use Rattle.theory.proofs.Lists.{first-before, and-true}
 
@@ -59,7 +59,7 @@ stands-at n [] s e size h = h
 stands-at n (b ∷ before) s e size h = stands-after n b (before ++ s) (length before) e size (stands-at n before s e size h)
 
 abbrev made : ℕ → ℕ → ℕ → Entry
-made l p a = record { line = l; position = p; amount = a }
+made l p a = record { word = l; position = p; amount = a }
 
 made-same : {l p a i j c : ℕ} → l ≡ i → p ≡ j → a ≡ c → made l p a ≡ made i j c
 made-same {l} {p} {a} {i} {j} {c} e f g = ap (λ (x : ℕ). made x p a) e ∙ ap (λ (x : ℕ). made i x a) f ∙ ap (made i j) g
@@ -83,12 +83,12 @@ flow-stands n i j a rest hi hj =
       sized = refl;
     }
 
--- the six kinds of columns: 6 bytes each, none of them 1, 2 or 8, and the line comes back
+-- the six kinds of columns: 6 bytes each, none of them 1, 2 or 8, and the word comes back
 column-size : (k : ℕ) → k < 6 → cell recordLengths (cell columnKinds k) ≡ 6
 column-size k h = eqb-true _ _ (first-before 6 (λ i. eqb (cell recordLengths (cell columnKinds i)) 6) k h)
 
-column-line : (k : ℕ) → k < 6 → cell columnLines (cell columnKinds k) ≡ 40 + k
-column-line k h = eqb-true _ _ (first-before 6 (λ i. eqb (cell columnLines (cell columnKinds i)) (40 + i)) k h)
+column-word : (k : ℕ) → k < 6 → cell columnWords (cell columnKinds k) ≡ 40 + k
+column-word k h = eqb-true _ _ (first-before 6 (λ i. eqb (cell columnWords (cell columnKinds i)) (40 + i)) k h)
 
 unlike : (b : Bool) → cond b false true ≡ true → b ≡ false
 unlike false e = refl
@@ -106,22 +106,22 @@ column-stands n k j a rest hk hj =
       later = column-unlike 1 k refl hk;
       going = column-unlike 8 k refl hk;
       inside = both (sector-in n j hj) (rw (column-unlike 2 k refl hk) refl);
-      entry = rw (column-unlike 2 k refl hk) (made-same (column-line k hk) (add-sub-cancel j 1) (amount-back a));
+      entry = rw (column-unlike 2 k refl hk) (made-same (column-word k hk) (add-sub-cancel j 1) (amount-back a));
       sized = column-size k hk;
     }
 
 -- The one lemma of a record: what `encode` wrote of a cell of the table, a reader finds
 pub stands : (n : ℕ) (e : Entry) → Within n e → (before rest : List ℕ) → Stands n (before ++ (encode e ++ rest)) (length before) e (length (encode e))
 unfolding encode
-stands n e f before rest = stands-at n before (encode e ++ rest) e (length (encode e)) (go (ltb (e .line) 40) refl)
+stands n e f before rest = stands-at n before (encode e ++ rest) e (length (encode e)) (go (ltb (e .word) 40) refl)
   where
-    go : (b : Bool) → ltb (e .line) 40 ≡ b → Stands n (encode e ++ rest) 0 e (length (encode e))
-    go true h = rw h (flow-stands n (e .line) (e .position) (e .amount) rest (f .row (ltb-true (e .line) 40 h)) (f .place))
+    go : (b : Bool) → ltb (e .word) 40 ≡ b → Stands n (encode e ++ rest) 0 e (length (encode e))
+    go true h = rw h (flow-stands n (e .word) (e .position) (e .amount) rest (f .row (ltb-true (e .word) 40 h)) (f .place))
     go false h =
-        let low = ltb-false (e .line) 40 h in
+        let low = ltb-false (e .word) 40 h in
         let high = f .known in
-        let k = e .line - 40 in
-        let same : 40 + k ≡ e .line = omega arith in
+        let k = e .word - 40 in
+        let same : 40 + k ≡ e .word = omega arith in
         let at-40 = column-stands n k (e .position) (e .amount) rest (omega arith) (f .place) in
         rw h (subst (λ (l : ℕ). Stands n (cell columnKinds k ∷ (e .position + 1) ∷ (amountBytes (e .amount) ++ rest)) 0 (made l (e .position) (e .amount)) 6) same at-40)
 
@@ -137,7 +137,7 @@ stands-inside n s at e size h =
 
 -- the reader's step over it
 pub step : (n : ℕ) (s : List ℕ) (at : ℕ) (e : Entry) (size fuel : ℕ) (es : List Entry) → Stands n s at e size
-    → walk (suc fuel) s n es at ≡ cond (named es e) (Reading.refused 14 at) (walk fuel s n (e ∷ es) (at + size))
+    → walk (suc fuel) s n es at ≡ cond (namedBefore es e) (Reading.refused 14 at) (walk fuel s n (e ∷ es) (at + size))
 unfolding walk
 step n s at e size fuel es h =
     rw (stands-inside n s at e size h, h .whole, h .later, h .going, h .inside, h .entry, h .sized) refl

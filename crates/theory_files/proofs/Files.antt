@@ -42,9 +42,9 @@ walk-on n es (e ∷ later) before (suc fuel) h f =
 -- a record has a byte, so the file's length is steps enough
 encode-long : (e : Entry) → 1 ≤ length (encode e)
 unfolding encode
-encode-long e = go (ltb (e .line) 40) refl
+encode-long e = go (ltb (e .word) 40) refl
   where
-    go : (b : Bool) → ltb (e .line) 40 ≡ b → 1 ≤ length (encode e)
+    go : (b : Bool) → ltb (e .word) 40 ≡ b → 1 ≤ length (encode e)
     go true h = rw h (zero-lt-suc 6)
     go false h = rw h (zero-lt-suc 5)
 

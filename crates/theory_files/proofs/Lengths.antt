@@ -9,7 +9,7 @@ use borrow.Author.Tests.{ltb-true, ltb-false, lt-ltb, le-ltb, leb-true, eqb-true
 use lib.Dec.{eqb, leb, ltb}
 use lib.ListN.{length, List·getD-eq-default}
 use Rattle.model.specs.Numbers.{sum, cell}
-use Rattle.model.specs.File.{Entry, recordLengths, columnLines, kindAt, isFlow, nextAt, wholeAt, insideAt, entryAt, named, Reading, walk, reading}
+use Rattle.model.specs.File.{Entry, recordLengths, columnWords, kindAt, isFlow, nextAt, wholeAt, insideAt, entryAt, namedBefore, Reading, walk, reading}
 use Rattle.theory.proofs.Sums.{sum-mono}
 use Rattle.theory.proofs.Lists.{first-before, and-true}
 
@@ -36,64 +36,64 @@ bit true = 1
 bit false = 0
 
 abbrev pub place : ℕ → ℕ → Entry
-place l p = record { line = l; position = p; amount = 0 }
+place l p = record { word = l; position = p; amount = 0 }
 
 abbrev is : Entry → ℕ → ℕ → Bool
-is e l p = eqb (e .line) l && eqb (e .position) p
+is e l p = eqb (e .word) l && eqb (e .position) p
 
-abbrev pub lineBytes : ℕ → ℕ
-lineBytes l = cond (ltb l 40) 7 6
+abbrev pub wordBytes : ℕ → ℕ
+wordBytes l = cond (ltb l 40) 7 6
 
 abbrev pub count : List Entry → ℕ → ℕ
-count es l = sum 40 (λ p. bit (named es (place l p)))
+count es l = sum 40 (λ p. bit (namedBefore es (place l p)))
 
 pub weight : List Entry → ℕ
-weight es = sum 46 (λ l. lineBytes l * count es l)
+weight es = sum 46 (λ l. wordBytes l * count es l)
 
 bit-most : (b : Bool) → bit b ≤ 1
 bit-most true = le-refl 1
 bit-most false = omega arith
 
 count-most : (es : List Entry) (l : ℕ) → count es l ≤ sum 40 (λ _. 1)
-count-most es l = sum-mono 40 (λ p _. bit-most (named es (place l p)))
+count-most es l = sum-mono 40 (λ p _. bit-most (namedBefore es (place l p)))
 
-pub weight-most : (es : List Entry) → weight es ≤ sum 46 (λ l. lineBytes l * 40)
+pub weight-most : (es : List Entry) → weight es ≤ sum 46 (λ l. wordBytes l * 40)
 unfolding weight
-weight-most es = sum-mono 46 (λ l _. mul-le-mul-left (lineBytes l) (count-most es l))
+weight-most es = sum-mono 46 (λ l _. mul-le-mul-left (wordBytes l) (count-most es l))
 
 bit-or : (a b : Bool) → bit b ≤ bit (a || b)
 bit-or true b = bit-most b
 bit-or false b = le-refl (bit b)
 
 count-mono : (e : Entry) (es : List Entry) (l : ℕ) → count es l ≤ count (e ∷ es) l
-count-mono e es l = sum-mono 40 (λ p _. bit-or (is e l p) (named es (place l p)))
+count-mono e es l = sum-mono 40 (λ p _. bit-or (is e l p) (namedBefore es (place l p)))
 
-named-place : (es : List Entry) (e : Entry) → named es (place (e .line) (e .position)) ≡ named es e
+named-place : (es : List Entry) (e : Entry) → namedBefore es (place (e .word) (e .position)) ≡ namedBefore es e
 named-place [] e = refl
-named-place (f ∷ es) e = ap (λ (b : Bool). eqb (f .line) (e .line) && eqb (f .position) (e .position) || b) (named-place es e)
+named-place (f ∷ es) e = ap (λ (b : Bool). eqb (f .word) (e .word) && eqb (f .position) (e .position) || b) (named-place es e)
 
 or-true : (a b : Bool) → a ≡ true → bit (a || b) ≡ 1
 or-true true b e = refl
 or-true false b e = absurd (false≢true e)
 
 -- a cell that was not named adds its bytes
-count-more : (e : Entry) (es : List Entry) → named es e ≡ false → e .position < 40 → count es (e .line) + 1 ≤ count (e ∷ es) (e .line)
+count-more : (e : Entry) (es : List Entry) → namedBefore es e ≡ false → e .position < 40 → count es (e .word) + 1 ≤ count (e ∷ es) (e .word)
 count-more e es fresh h =
-    let itself : is e (e .line) (e .position) ≡ true =
-    rw (eq-eqb (e .line) (e .line) refl, eq-eqb (e .position) (e .position) refl) refl
+    let itself : is e (e .word) (e .position) ≡ true =
+    rw (eq-eqb (e .word) (e .word) refl, eq-eqb (e .position) (e .position) refl) refl
     in
-    let before : bit (named es (place (e .line) (e .position))) ≡ 0 = ap bit (named-place es e ∙ fresh) in
-    let after = or-true (is e (e .line) (e .position)) (named es (place (e .line) (e .position))) itself in
-    sum-lift 40 (e .position) 1 h (λ p _. bit-or (is e (e .line) p) (named es (place (e .line) p))) (omega arith)
+    let before : bit (namedBefore es (place (e .word) (e .position))) ≡ 0 = ap bit (named-place es e ∙ fresh) in
+    let after = or-true (is e (e .word) (e .position)) (namedBefore es (place (e .word) (e .position))) itself in
+    sum-lift 40 (e .position) 1 h (λ p _. bit-or (is e (e .word) p) (namedBefore es (place (e .word) p))) (omega arith)
 
-weight-more : (e : Entry) (es : List Entry) → named es e ≡ false → e .line < 46 → e .position < 40 → weight es + lineBytes (e .line) ≤ weight (e ∷ es)
+weight-more : (e : Entry) (es : List Entry) → namedBefore es e ≡ false → e .word < 46 → e .position < 40 → weight es + wordBytes (e .word) ≤ weight (e ∷ es)
 unfolding weight
 weight-more e es fresh hl hp =
-    let b = lineBytes (e .line) in
-    let one-more : b * (count es (e .line) + 1) ≤ b * count (e ∷ es) (e .line) = mul-le-mul-left b (count-more e es fresh hp) in
-    let split : b * (count es (e .line) + 1) ≡ b * count es (e .line) + b = mul-add b (count es (e .line)) 1 ∙ ap (λ (x : ℕ). b * count es (e .line) + x) (mul-one b) in
-    sum-lift 46 (e .line) b hl (λ l _. mul-le-mul-left (lineBytes l) (count-mono e es l))
-    (subst (λ (x : ℕ). x ≤ b * count (e ∷ es) (e .line)) split one-more)
+    let b = wordBytes (e .word) in
+    let one-more : b * (count es (e .word) + 1) ≤ b * count (e ∷ es) (e .word) = mul-le-mul-left b (count-more e es fresh hp) in
+    let split : b * (count es (e .word) + 1) ≡ b * count es (e .word) + b = mul-add b (count es (e .word)) 1 ∙ ap (λ (x : ℕ). b * count es (e .word) + x) (mul-one b) in
+    sum-lift 46 (e .word) b hl (λ l _. mul-le-mul-left (wordBytes l) (count-mono e es l))
+    (subst (λ (x : ℕ). x ≤ b * count (e ∷ es) (e .word)) split one-more)
 
 -- ---- what the reader has seen of a record when it takes it
 abbrev accepted : Reading → Bool
@@ -110,7 +110,7 @@ barred false x q p e = (refl, e)
 
 -- a kind with a body, other than 1, 2 and 8, is a column's
 abbrev columnKind : ℕ → Bool
-columnKind k = eqb (cell recordLengths k) 6 && (leb 40 (cell columnLines k) && ltb (cell columnLines k) 46)
+columnKind k = eqb (cell recordLengths k) 6 && (leb 40 (cell columnWords k) && ltb (cell columnWords k) 46)
 
 abbrev other : ℕ → Bool
 other k = eqb (cell recordLengths k) 0 || (eqb k 1 || (eqb k 2 || eqb k 8))
@@ -144,8 +144,8 @@ column-kind k body no-1 no-2 no-8 = go (ltb k 10) refl
         absurd (omega arith)
 
 pub record Taken (s : List ℕ) (at : ℕ) : Type 0 where
-  pub bytes : lineBytes (entryAt s at .line) ≡ cell recordLengths (kindAt s at)
-  pub line-low : entryAt s at .line < 46
+  pub bytes : wordBytes (entryAt s at .word) ≡ cell recordLengths (kindAt s at)
+  pub word-low : entryAt s at .word < 46
   pub position-low : entryAt s at .position < 40
 
 -- a sector byte from 1 to n, less 1, is a sector below 40
@@ -174,17 +174,17 @@ taken s at n most whole no-1 no-8 inside = go (isFlow s at) refl
         let second-low = sector-low n (cell s (at + 2)) most (rw e at (parts .1)) in
         record {
           bytes = rw (e, lt-ltb (cell s (at + 1) - 1) 40 first-low, eqb-true (kindAt s at) 2 e) refl;
-          line-low = rw e (below-46 _ first-low);
+          word-low = rw e (below-46 _ first-low);
           position-low = rw e second-low;
         }
     go false e =
         let body = and-true (leb 1 (cell recordLengths (kindAt s at))) _ whole .0 in
         let column = and-true _ _ (column-kind (kindAt s at) body no-1 e no-8) in
-        let lines = and-true _ _ (column .1) in
-        let low = leb-true 40 (cell columnLines (kindAt s at)) (lines .0) in
+        let words = and-true _ _ (column .1) in
+        let low = leb-true 40 (cell columnWords (kindAt s at)) (words .0) in
         record {
-          bytes = rw (e, le-ltb (cell columnLines (kindAt s at)) 40 low) (sym (eqb-true _ _ (column .0)));
-          line-low = rw e (ltb-true _ _ (lines .1));
+          bytes = rw (e, le-ltb (cell columnWords (kindAt s at)) 40 low) (sym (eqb-true _ _ (column .0)));
+          word-low = rw e (ltb-true _ _ (words .1));
           position-low = rw e first-low;
         }
 
@@ -193,9 +193,9 @@ either : {R : Type 0} (b : Bool) (x y : Reading) → accepted (cond b x y) ≡ t
 either true x y e p q = p e
 either false x y e p q = q refl e
 
-pub offset-on : (s : List ℕ) (es : List Entry) (at : ℕ) → Taken s at → named es (entryAt s at) ≡ false → at ≤ 2 + weight es → nextAt s at ≤ 2 + weight (entryAt s at ∷ es)
+pub offset-on : (s : List ℕ) (es : List Entry) (at : ℕ) → Taken s at → namedBefore es (entryAt s at) ≡ false → at ≤ 2 + weight es → nextAt s at ≤ 2 + weight (entryAt s at ∷ es)
 offset-on s es at t fresh h =
-    let more = weight-more (entryAt s at) es fresh (t .line-low) (t .position-low) in
+    let more = weight-more (entryAt s at) es fresh (t .word-low) (t .position-low) in
     let same = t .bytes in
     omega arith
 
@@ -213,7 +213,7 @@ walk-length (suc fuel) s n es at most h e =
     omega (arith, last, limit, h))
     (λ going on.
     let inside = through (insideAt s at n) _ 13 at on in
-    let fresh = barred (named es (entryAt s at)) _ 14 at (inside .1) in
+    let fresh = barred (namedBefore es (entryAt s at)) _ 14 at (inside .1) in
     let t = taken s at n most (whole .0) (later .0) going (inside .0) in
     walk-length fuel s n (entryAt s at ∷ es) (nextAt s at) most (offset-on s es at t (fresh .0) h) (fresh .1))
 

@@ -10,7 +10,7 @@ use lib.Dec.{eqb, leb, ltb}
 use lib.ListN.{length, take}
 use lib.Seq.{length-take-le}
 use Rattle.model.specs.Numbers.{cell}
-use Rattle.model.specs.File.{Entry, recordLengths, amountFrom, kindAt, nextAt, wholeAt, insideAt, entryAt, named, Reading, walk, reading}
+use Rattle.model.specs.File.{Entry, recordLengths, amountFrom, kindAt, nextAt, wholeAt, insideAt, entryAt, namedBefore, Reading, walk, reading}
 use Rattle.model.specs.Page.{readingPage, page}
 use Rattle.theory.proofs.Lists.{first-before, and-true}
 use Rattle.theory_files.proofs.Lengths.{no-kind, weight, weight-most, taken, offset-on}
@@ -87,7 +87,7 @@ module _ (s t : List ℕ) (same : (i : ℕ) → i < 12649 → cell t i ≡ cell 
       cond-else (eqb (kindAt s at) 1) _ _ _ (λ no-1.
       cond-else (eqb (kindAt s at) 8) _ _ _ (λ no-8.
       cond-then (insideAt s at n) _ _ _ (λ inside.
-      cond-else (named es (entryAt s at)) _ _ _ (λ fresh.
+      cond-else (namedBefore es (entryAt s at)) _ _ _ (λ fresh.
       let here = taken s at n most whole no-1 no-8 inside in
       let some = body-some at whole in
       walk-same fuel fuel′ n (entryAt s at ∷ es) (nextAt s at) most (offset-on s es at here fresh h) (omega arith) (omega arith)))))))

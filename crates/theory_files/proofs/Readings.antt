@@ -10,7 +10,7 @@ use lib.Dec.{eqb, leb, ltb, lit≤}
 use lib.ListN.{length, take}
 use lib.Seq.{length-take-le}
 use Rattle.model.specs.Numbers.{cell}
-use Rattle.model.specs.File.{Entry, kindAt, nextAt, wholeAt, insideAt, entryAt, named, Reading, walk, reading}
+use Rattle.model.specs.File.{Entry, kindAt, nextAt, wholeAt, insideAt, entryAt, namedBefore, Reading, walk, reading}
 use Rattle.theory.proofs.Lists.{and-true}
 use Rattle.theory_files.proofs.Prefixes.{prefix-answers}
 
@@ -46,7 +46,7 @@ walk-answered (suc fuel) s n es at some few =
     either len (eqb (kindAt s at) 8) _ _
     (provided len (eqb (at + 1) len) (Reading.table n es) 15 (at + 1) (le-refl 15, omega arith) (λ last. (some, few)))
     (provided len (insideAt s at n) _ 13 at (lit≤ tt, omega arith) (λ inside.
-    unless len (named es (entryAt s at)) _ 14 at (lit≤ tt, omega arith) (λ fresh.
+    unless len (namedBefore es (entryAt s at)) _ 14 at (lit≤ tt, omega arith) (λ fresh.
     walk-answered fuel s n (entryAt s at ∷ es) (nextAt s at) some few))))))
 
 whole-answered : (s : List ℕ) → Answered (length s) (reading s)

@@ -46,19 +46,19 @@ passed p =
     accepted-table (table (start p)) (matrices (start p)) (columns (start p)) (answered-pass (asked q) (q .check-called .ensures) (p .enum-told .given .1))
 
 -- a and m as they are filled
-abbrev told : tie.After-fill-imports → tie.After-enum-told
+abbrev told : tie.After-fill-import-shares → tie.After-enum-told
 told i = i .before .before .before .before .before .before .before .before .before .before
 
-abbrev filled : tie.After-fill-imports → tie.After-fill-inputs
+abbrev filled : tie.After-fill-import-shares → tie.After-fill-inputs
 filled i = i .before .before .before .before .before .before .before .before
 
-inputs-are : (i : tie.After-fill-imports) → filled i .fill-inputs .last .1 .1 .1 .0 ≡ inputCoefficients (table (start (told i)))
+inputs-are : (i : tie.After-fill-import-shares) → filled i .fill-inputs .last .1 .1 .1 .0 ≡ inputCoefficients (table (start (told i)))
 unfolding inputCoefficients inputCoefficient
 inputs-are i = filled i .fill-inputs .ensures
 
-imports-are : (i : tie.After-fill-imports) → i .fill-imports .last .1 .1 .1 .1 .0 ≡ importCoefficients (table (start (told i)))
+imports-are : (i : tie.After-fill-import-shares) → i .fill-import-shares .last .1 .1 .1 .1 .0 ≡ importCoefficients (table (start (told i)))
 unfolding importCoefficients importCoefficient
-imports-are i = i .fill-imports .ensures
+imports-are i = i .fill-import-shares .ensures
 
 returns : tie.Need-returns
 unfolding coefficientsReport
@@ -78,8 +78,8 @@ fill-shares-requires c κs =
     let z = A .sizes in
     ((z .columns 3 (lit< tt), z .columns 4 (lit< tt), A .slices .0), A .small .columns 3)
 
-fill-imports-requires : tie.Need-fill-imports-requires
-fill-imports-requires c κs =
+fill-import-shares-requires : tie.Need-fill-import-shares-requires
+fill-import-shares-requires c κs =
     let A = passed (c .before .before .before .before .before .before .before .before .before) in
     let z = A .sizes in
     let m = A .small in
@@ -97,7 +97,7 @@ finish-requires c κs =
         z .some,
         z .few,
         filled i .fill-inputs .kept .1 .1 .1 .0 ∙ A .squares .0,
-        i .fill-imports .kept .1 .1 .1 .1 .0 ∙ A .slices .1 .0,
+        i .fill-import-shares .kept .1 .1 .1 .1 .0 ∙ A .slices .1 .0,
         z .columns 0 (lit< tt),
         z .columns 1 (lit< tt),
         A .squares .1 .0,
@@ -131,5 +131,5 @@ pub fill-sheets-spec : {M : Type 1} → statement M
 fill-sheets-spec =
     tie.close
     (tie.spec
-    (λ c κs. search needs) (λ c. search needs) returns (λ c. search needs) fill-inputs-requires fill-shares-requires fill-imports-requires
+    (λ c κs. search needs) (λ c. search needs) returns (λ c. search needs) fill-inputs-requires fill-shares-requires fill-import-shares-requires
     finish-requires (λ c. search needs) (λ c. search needs) (λ c. search needs) (λ c. search needs) (λ c. search needs) returns-2)

@@ -5,7 +5,7 @@ use Rattle.file_records.proofs.mark.Statement.{statement}
 use Rattle.file_records.proofs.mark.Tie as tie
 
 returns : tie.Need-returns
-returns c = let s = c .before in marked-more (s .args .marks .now) (s .args .line) (s .args .position) (s .pre .0) (s .pre .1)
+returns c = let s = c .before in marked-more (s .args .marks .now) (s .args .word) (s .args .position) (s .pre .0) (s .pre .1)
 
 pub mark-spec : {M : Type 1} → statement M
 mark-spec =

@@ -34,8 +34,8 @@ end-at-requires c κs = (begun (c .before .before .before .before), c .if4 .take
 returns-4 : tie.Need-returns-4
 returns-4 c = let a = c .before .before .before .before .before .before .before .before .before .before .args in c .end-at .ensures (a .n) (a .marks .now)
 
-cell-at-requires : tie.Need-cell-at-requires
-cell-at-requires c κs =
+ask-cell-requires : tie.Need-ask-cell-requires
+ask-cell-requires c κs =
     let q = c .before .before .before .before in
     (entry q .pre .0, entry q .pre .1, begun q, record { not-first = c .before .before .if3 .left; not-end = c .if4 .left })
 
@@ -44,4 +44,4 @@ ask-spec =
     tie.close
     (tie.spec
     returns (λ c κs. search needs) returns-2 (λ c. search needs) returns-3 (λ c. search needs) end-at-requires
-    returns-4 cell-at-requires (λ c. c .cell-at .ensures))
+    returns-4 ask-cell-requires (λ c. c .ask-cell .ensures))

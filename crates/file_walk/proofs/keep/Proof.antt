@@ -7,7 +7,7 @@ use Rattle.file_walk.proofs.keep.Statement.{statement}
 use Rattle.file_walk.proofs.keep.Tie as tie
 
 abbrev cell : tie.Start → Entry
-cell s = record { line = s .args .line; position = s .args .position; amount = s .args .amount }
+cell s = record { word = s .args .word; position = s .args .position; amount = s .args .amount }
 
 returns : tie.Need-returns
 returns c =

@@ -15,8 +15,8 @@ walk-file-requires c κs =
     let s = c .before .before .before .before .before .before .before .before .before in
     (s .pre .0, c .before .before .before .before .fill-zero .ensures ∙ ap (λ (k : ℕ). replicate k 0) (s .pre .1))
 
-settle-requires : tie.Need-settle-requires
-settle-requires c κs =
+clear-refused-requires : tie.Need-clear-refused-requires
+clear-refused-requires c κs =
     let w = c .before .before .before .before .before .before .before .before .before in
     w .walk-file .kept .1 .0 ∙ ap length (start w .pre .0) ∙ length-replicate {A = ℕ} 1840 0
 
@@ -24,10 +24,10 @@ returns : tie.Need-returns
 returns c =
     let w = c .before .before .before .before .before .before .before .before .before .before .before .before in
     let s = start w in
-    let d = c .before .before .settle .ensures (reading (s .args .file .now)) (w .walk-file .ensures) in
+    let d = c .before .before .clear-refused .ensures (reading (s .args .file .now)) (w .walk-file .ensures) in
     (d .0, d .1, c .before .before .before .before .before .before .fill-zero2 .ensures ∙ ap (λ (k : ℕ). replicate k 0) (w .walk-file .kept .1 .1 .0 ∙ w .before .before .before .before .before .fill-zero .kept .0 ∙ s .pre .1))
 
 pub read-flat-spec : {M : Type 1} → statement M
 read-flat-spec =
     tie.close
-    (tie.spec (λ c κs. search needs) walk-file-requires (λ c κs. search needs) settle-requires (λ c. search needs) (λ c. search needs) returns)
+    (tie.spec (λ c κs. search needs) walk-file-requires (λ c κs. search needs) clear-refused-requires (λ c. search needs) (λ c. search needs) returns)

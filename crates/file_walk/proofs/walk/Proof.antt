@@ -89,7 +89,7 @@ loop-again c =
     let k = told c in
     let i = head (before-keep k) .loop .inv in
     let g = k .before .step2 .given .0 in
-    (goes-on _ _ _ _ _ _ (i .0) (record { line = g .0; position = g .1 .0; amount = g .1 .1 .0 }) _ _ _ (asked (before-keep k) _ (k .before .step2 .given .1)) (after-keep c .keep .ensures), i .1, i .2)
+    (goes-on _ _ _ _ _ _ (i .0) (record { word = g .0; position = g .1 .0; amount = g .1 .1 .0 }) _ _ _ (asked (before-keep k) _ (k .before .step2 .given .1)) (after-keep c .keep .ensures), i .1, i .2)
 
 pub walk-spec : {M : Type 1} → statement M
 walk-spec =

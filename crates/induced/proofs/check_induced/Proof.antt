@@ -37,11 +37,11 @@ lengths-are p =
     let s = answered-pass (sizes q) (q .check-sizes .ensures) (p .enum-told .given .1) in
     induced-sizes (a .n) (a .a .now) (a .m .now) (a .v .now) (a .final-demand .now) (length (a .y .now)) (a .value-len ∷ a .imports-len ∷ []) (s .0) (s .1 .0)
 
-said : (r : tie.After-check-amounts) → let q = r .before .before .before in report (r .check-amounts .result) ≡ verdict (sizes q ++ amounts q) []
+said : (r : tie.After-check-shares) → let q = r .before .before .before in report (r .check-shares .result) ≡ verdict (sizes q ++ amounts q) []
 said r =
     let p = r .before in
     let q = p .before .before in
-    r .check-amounts .ensures ∙ answered-on (sizes q) (q .check-sizes .ensures) (amounts q) [] (p .enum-told .given .1)
+    r .check-shares .ensures ∙ answered-on (sizes q) (q .check-sizes .ensures) (amounts q) [] (p .enum-told .given .1)
 
 returns : tie.Need-returns
 unfolding inducedReport
@@ -49,8 +49,8 @@ returns c =
     let q = c .before .before .before in
     answered-stop (sizes q) (q .check-sizes .ensures) (amounts q ++ last q) [] (c .before .sizes .given .1)
 
-check-amounts-requires : tie.Need-check-amounts-requires
-check-amounts-requires c κs =
+check-shares-requires : tie.Need-check-shares-requires
+check-shares-requires c κs =
     let s = lengths-are c in
     (s .few, s .inputs, s .imports, s .values, s .demand)
 
@@ -73,5 +73,5 @@ check-induced-spec =
     tie.close
     (tie.spec
     (λ c. search needs) (λ c. search needs) (λ c κs. search needs) (λ c. search needs) returns (λ c. search needs)
-    check-amounts-requires (λ c. search needs) returns-2 (λ c. search needs)
+    check-shares-requires (λ c. search needs) returns-2 (λ c. search needs)
     (λ c κs. lengths-are (c .before .before .before) .production) returns-3)

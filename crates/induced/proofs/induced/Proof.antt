@@ -34,8 +34,8 @@ fill-value-added-requires c κs =
     let g = given p in
     ((g .sizes .values, g .sizes .production, g .sizes .slices .0), (g .values-small, g .total))
 
-fill-imports-requires : tie.Need-fill-imports-requires
-fill-imports-requires c κs =
+fill-induced-imports-requires : tie.Need-fill-induced-imports-requires
+fill-induced-imports-requires c κs =
     let p = c .before .before .before .before .before in
     let g = given p in
     let s = g .sizes in
@@ -51,12 +51,12 @@ returns c =
 returns-2 : tie.Need-returns-2
 returns-2 c =
     let p = c .before .before .before .before .before .before .before .before in
-    record { answer = accepted p; values = c .before .before .before .before .before .before .fill-value-added .ensures; imported = c .before .before .fill-imports .ensures }
+    record { answer = accepted p; values = c .before .before .before .before .before .before .fill-value-added .ensures; imported = c .before .before .fill-induced-imports .ensures }
 
 pub induced-spec : {M : Type 1} → statement M
 induced-spec =
     tie.close
     (tie.spec
     (λ c κs. search needs) (λ c. search needs) (λ c κs. search needs) (λ c κs. search needs) (λ c. search needs)
-    fill-value-added-requires fill-imports-requires (λ c. search needs) (λ c. search needs) returns (λ c. search needs)
+    fill-value-added-requires fill-induced-imports-requires (λ c. search needs) (λ c. search needs) returns (λ c. search needs)
     (λ c. search needs) returns-2)

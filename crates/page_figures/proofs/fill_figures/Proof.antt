@@ -8,7 +8,7 @@ use Rattle.page_figures.proofs.Stages.{demand-cut, figures-stop, figure
 use Rattle.page_figures.proofs.fill_figures.Statement.{statement}
 use Rattle.page_figures.proofs.fill_figures.Tie as tie
 
-abbrev start : tie.After-fill-sheets → tie.Start
+abbrev start : tie.After-fill-coefficients → tie.Start
 start q = q .before .before .before .before .before .before .before .before .before .before .before .before .before .before .before
 
 abbrev table : tie.Start → Table
@@ -21,13 +21,13 @@ fill-produced-requires c κs =
     (s .pre .0 .0, l .0, l .1, l .2)
 
 returns : tie.Need-returns
-returns c = let q = c .before .before .before .before .before .before .before .before .before .before .before .before .before in figures-stop (table (start q)) (q .fill-sheets .ensures) (ap report (c .before .answer .given .1))
+returns c = let q = c .before .before .before .before .before .before .before .before .before .before .before .before .before in figures-stop (table (start q)) (q .fill-coefficients .ensures) (ap report (c .before .answer .given .1))
 
 returns-2 : tie.Need-returns-2
 returns-2 c =
     let q = c .before .before .before .before .before .before .before .before .before .before .before .before .before .before .before .before .before .before .before .before .before .before .before .before .before .before .before .before in
     let a = start q .args in
-    figures-on (table (start q)) (q .fill-sheets .ensures) (ap report (c .before .before .before .before .before .before .before .before .before .before .before .before .before .before .before .before .enum-told .given .1))
+    figures-on (table (start q)) (q .fill-coefficients .ensures) (ap report (c .before .before .before .before .before .before .before .before .before .before .before .before .before .before .before .before .enum-told .given .1))
     (demand-cut (a .n) (a .cells .now)) (c .before .before .before .before .before .before .fill-produced .ensures)
 
 pub fill-figures-spec : {M : Type 1} → statement M

@@ -1,4 +1,4 @@
--- `induced::fill_imports` meets its contract: the cells below i are those of the definition. Assumes nothing.
+-- `induced::fill_induced_imports` meets its contract: the cells below i are those of the definition. Assumes nothing.
 use mathlib.Core.Path.{_≡_, ap, _∙_}
 use Prim.Native.Nat.{ℕ, _+_, _*_, _≤_, _-_}
 use native.Mathlib.Nat.{mul-le-mul, mul-le-mul-left, le-trans}
@@ -11,8 +11,8 @@ use Rattle.model.specs.Checks.{productionLimit}
 use Rattle.theory.proofs.Sums.{cell-in}
 use Rattle.theory.proofs.Lists.{Agree, agree-none, agree-set, tabulated}
 use Rattle.theory_rounds.proofs.Rounds.{weighted-shares, intermediate-within}
-use Rattle.induced.proofs.fill_imports.Statement.{statement}
-use Rattle.induced.proofs.fill_imports.Tie as tie
+use Rattle.induced.proofs.fill_induced_imports.Statement.{statement}
+use Rattle.induced.proofs.fill_induced_imports.Tie as tie
 
 abbrev Inv-loop : tie.InvT-loop
 Inv-loop n a m demand y out₀ i₀ out i =
@@ -88,8 +88,8 @@ returns c =
     let l = c .before .loop in
     tabulated _ (l .i) _ (l .out) (l .inv .1) (c .loop-test .left) (l .inv .2)
 
-pub fill-imports-spec : {M : Type 1} → statement M
-fill-imports-spec =
+pub fill-induced-imports-spec : {M : Type 1} → statement M
+fill-induced-imports-spec =
     tie.close
     (tie.spec
     Inv-loop μ-loop loop-holds intermediate-use-requires (λ c. omega arith) (λ c. omega arith) (λ c. omega arith) (λ c. omega arith)

@@ -1,4 +1,4 @@
--- `table_sheets::fill_imports` meets its contract: the cells below i are those of the definition. Assumes nothing.
+-- `table_sheets::fill_import_shares` meets its contract: the cells below i are those of the definition. Assumes nothing.
 use mathlib.Core.Path.{_≡_, ap, _∙_}
 use Prim.Native.Nat.{_-_, _≤_}
 use native.Mathlib.Omega.{arith}
@@ -6,8 +6,8 @@ use lib.ListN.{length, length-set}
 use Rattle.model.specs.Numbers.{cell}
 use Rattle.model.specs.Table.{absorption, share}
 use Rattle.theory.proofs.Lists.{Agree, agree-none, agree-set, tabulated}
-use Rattle.table_sheets.proofs.fill_imports.Statement.{statement}
-use Rattle.table_sheets.proofs.fill_imports.Tie as tie
+use Rattle.table_sheets.proofs.fill_import_shares.Statement.{statement}
+use Rattle.table_sheets.proofs.fill_import_shares.Tie as tie
 
 abbrev Inv-loop : tie.InvT-loop
 Inv-loop n x demand imports m₀ i₀ m i = (i ≤ n) × (length m ≡ n) × Agree m i (λ k. share (cell imports k) (absorption n x demand k))
@@ -46,8 +46,8 @@ returns c =
     let l = c .before .loop in
     tabulated _ (l .i) _ (l .m) (l .inv .1) (c .loop-test .left) (l .inv .2)
 
-pub fill-imports-spec : {M : Type 1} → statement M
-fill-imports-spec =
+pub fill-import-shares-spec : {M : Type 1} → statement M
+fill-import-shares-spec =
     tie.close
     (tie.spec
     Inv-loop μ-loop loop-holds need-of-requires (λ c. omega arith) (λ c. omega arith) share-of-requires

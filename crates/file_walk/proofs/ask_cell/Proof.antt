@@ -1,4 +1,4 @@
--- `file_walk::cell_at` meets its contract. Assumes nothing.
+-- `file_walk::ask_cell` meets its contract. Assumes nothing.
 use mathlib.Core.Bool.{true}
 use mathlib.Core.List.{List, _∷_}
 use mathlib.Core.Path.{_≡_, sym, ap, ap₂, _∙_}
@@ -6,15 +6,15 @@ use Prim.Native.Nat.{ℕ, _+_}
 use native.Mathlib.Omega.{arith}
 use borrow.Author.Needs.{needs}
 use borrow.Author.Tests.{not-true, not-false}
-use Rattle.model.specs.File.{Entry, insideAt, entryAt, named, walk}
+use Rattle.model.specs.File.{Entry, insideAt, entryAt, namedBefore, walk}
 use Rattle.file_records.specs.Marks.{marked}
 use Rattle.theory_files.specs.Files.{Within}
 use Rattle.file_walk.specs.Steps.{Agrees, Names}
 use Rattle.file_walk.proofs.WalkLaws.{outside, twice, fresh}
 use Rattle.file_walk.proofs.NameLaws.{bodied, sectors-of, within-of, names-of}
 use Rattle.file_walk.proofs.Loops.{takes}
-use Rattle.file_walk.proofs.cell_at.Statement.{statement}
-use Rattle.file_walk.proofs.cell_at.Tie as tie
+use Rattle.file_walk.proofs.ask_cell.Statement.{statement}
+use Rattle.file_walk.proofs.ask_cell.Tie as tie
 
 -- past question 13
 abbrev entry : tie.Else1 → tie.Start
@@ -30,11 +30,11 @@ within c = let s = entry c in within-of (s .args .file .now) (s .args .at) (s .p
 told :
     (c : tie.After-is-marked) →
     let s = entry (c .before .before .before) in
-    (es : List Entry) → Agrees es (s .args .marks .now) → named es (entryAt (s .args .file .now) (s .args .at)) ≡ c .is-marked .result
+    (es : List Entry) → Agrees es (s .args .marks .now) → namedBefore es (entryAt (s .args .file .now) (s .args .at)) ≡ c .is-marked .result
 told c es a =
     let s = entry (c .before .before .before) in
     sym (a .same (entryAt (s .args .file .now) (s .args .at)))
-    ∙ ap₂ (marked (s .args .marks .now)) (sym (c .before .before .line-at .ensures)) (sym (c .before .position-at .ensures))
+    ∙ ap₂ (marked (s .args .marks .now)) (sym (c .before .before .word-at .ensures)) (sym (c .before .position-at .ensures))
     ∙ sym (c .is-marked .ensures)
 
 names :
@@ -53,8 +53,8 @@ returns c =
     let s = c .before .before .before .before in
     λ fuel es a. outside (s .args .file .now) (s .args .n) (s .args .at) fuel es (s .pre .2) (s .pre .3) (sym (c .before .is-inside .ensures) ∙ not-true _ (c .if1 .taken))
 
-line-at-requires : tie.Need-line-at-requires
-line-at-requires c κs =
+word-at-requires : tie.Need-word-at-requires
+word-at-requires c κs =
     let s = entry c in
     (bodied (s .args .file .now) (s .args .at) (s .pre .2) (s .pre .3), sectors-of (s .args .file .now) (s .args .at) (s .pre .2) (s .pre .3) (s .args .n) (s .pre .0) (inside c))
 
@@ -67,7 +67,7 @@ is-marked-requires : tie.Need-is-marked-requires
 is-marked-requires c κs =
     let s = entry (c .before .before) in
     let w = within (c .before .before) in
-    (omega (arith, w .known, s .pre .1, c .before .line-at .ensures), omega (arith, w .place, s .pre .0, c .position-at .ensures))
+    (omega (arith, w .known, s .pre .1, c .before .word-at .ensures), omega (arith, w .place, s .pre .0, c .position-at .ensures))
 
 returns-2 : tie.Need-returns-2
 returns-2 c =
@@ -84,15 +84,15 @@ returns-3 c =
     let s = entry (q .before .before .before) in
     let f = s .args .file .now in
     let at = s .args .at in
-    takes f (s .args .n) at (s .args .marks .now) (entryAt f at) _ _ _ _ (c .before .before .before .before .before .before .line-at .ensures) (c .before .before .before .before .before .position-at .ensures) (c .before .before .amount-at .ensures .0)
+    takes f (s .args .n) at (s .args .marks .now) (entryAt f at) _ _ _ _ (c .before .before .before .before .before .before .word-at .ensures) (c .before .before .before .before .before .position-at .ensures) (c .before .before .amount-at .ensures .0)
     (λ fuel es a.
     fresh f (s .args .n) at fuel es (s .pre .2) (s .pre .3) (inside (q .before .before .before)) (told q es a ∙ c .before .before .before .if2 .left)
     ∙ ap (λ (z : ℕ). walk fuel f (s .args .n) (entryAt f at ∷ es) (at + z)) (sym (c .record-length .ensures)))
     (names c)
 
-pub cell-at-spec : {M : Type 1} → statement M
-cell-at-spec =
+pub ask-cell-spec : {M : Type 1} → statement M
+ask-cell-spec =
     tie.close
     (tie.spec
-    is-inside-requires returns line-at-requires position-at-requires is-marked-requires returns-2 amount-at-requires
+    is-inside-requires returns word-at-requires position-at-requires is-marked-requires returns-2 amount-at-requires
     (λ c. search needs) (λ c κs. search needs) (λ c. let m = names c .inside in omega arith) returns-3)

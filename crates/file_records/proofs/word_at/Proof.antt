@@ -1,24 +1,24 @@
--- `file_records::line_at` meets its contract. Assumes nothing.
+-- `file_records::word_at` meets its contract. Assumes nothing.
 use mathlib.Core.Path.{ap, _∙_}
 use Prim.Native.Nat.{ℕ, _-_}
 use borrow.Author.Needs.{needs}
 use Rattle.model.specs.File.{Entry}
 use Rattle.file_records.proofs.RecordLaws.{entry-flow, entry-column}
-use Rattle.file_records.proofs.line_at.Statement.{statement}
-use Rattle.file_records.proofs.line_at.Tie as tie
+use Rattle.file_records.proofs.word_at.Statement.{statement}
+use Rattle.file_records.proofs.word_at.Tie as tie
 
 returns : tie.Need-returns
 returns c =
     let a = c .before .before .before .before .before .args in
-    ap (λ (t : ℕ). t - 1) (c .wide .ensures .0) ∙ ap (λ (e : Entry). e .line) (entry-flow (a .s .now) (a .at) (c .before .before .if1 .taken))
+    ap (λ (t : ℕ). t - 1) (c .wide .ensures .0) ∙ ap (λ (e : Entry). e .word) (entry-flow (a .s .now) (a .at) (c .before .before .if1 .taken))
 
 returns-2 : tie.Need-returns-2
 returns-2 c =
     let a = c .before .before .before .before .before .args in
-    c .column-line .ensures ∙ ap (λ (e : Entry). e .line) (entry-column (a .s .now) (a .at) (c .before .before .if1 .left))
+    c .column-word .ensures ∙ ap (λ (e : Entry). e .word) (entry-column (a .s .now) (a .at) (c .before .before .if1 .left))
 
-pub line-at-spec : {M : Type 1} → statement M
-line-at-spec =
+pub word-at-spec : {M : Type 1} → statement M
+word-at-spec =
     tie.close
     (tie.spec
     (λ c. search needs) (λ c. search needs) (λ c. search needs) (λ c κs. search needs) (λ c. search needs) returns

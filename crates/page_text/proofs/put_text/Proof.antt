@@ -1,4 +1,4 @@
--- `page_text::put_word` meets its contract: the bytes from i on are left. Assumes nothing.
+-- `page_text::put_text` meets its contract: the bytes from i on are left. Assumes nothing.
 use mathlib.Core.Path.{_≡_, refl, sym, ap}
 use mathlib.Core.List.{List, [], _∷_}
 use Prim.Native.Nat.{ℕ, _+_, _-_, _≤_}
@@ -6,8 +6,8 @@ use native.Mathlib.Omega.{arith}
 use lib.ListN.{length, getD, drop, drop-of-length-le}
 use lib.Seq.{sets}
 use Rattle.page_text.proofs.Stores.{Begun, begin, go-on, done, kept, drop-first}
-use Rattle.page_text.proofs.put_word.Statement.{statement}
-use Rattle.page_text.proofs.put_word.Tie as tie
+use Rattle.page_text.proofs.put_text.Statement.{statement}
+use Rattle.page_text.proofs.put_text.Tie as tie
 
 abbrev Inv-loop : tie.InvT-loop
 Inv-loop word at out₀ i₀ i-end out i = (i ≤ length word) × (i-end ≡ length word) × Begun word at out₀ out (at + i) (drop i word)
@@ -39,8 +39,8 @@ returns c =
     let e = drop-of-length-le (a .word .now) {i = l .i} (omega arith) in
     done (l .inv .2) (omega (arith, ap length e), sym (ap (λ (x : List ℕ). sets (l .out) (a .at + l .i) x) e))
 
-pub put-word-spec : {M : Type 1} → statement M
-put-word-spec =
+pub put-text-spec : {M : Type 1} → statement M
+put-text-spec =
     tie.close
     (tie.spec
     Inv-loop μ-loop loop-holds (λ c. omega arith) (λ c. omega arith)

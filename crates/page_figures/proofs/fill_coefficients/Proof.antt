@@ -1,11 +1,11 @@
--- `page_figures::fill_sheets` meets its contract. Assumes nothing.
+-- `page_figures::fill_coefficients` meets its contract. Assumes nothing.
 use Prim.Native.Nat.{_*_, _≤_}
 use native.Mathlib.Nat.{mul-le-mul}
 use native.Mathlib.Omega.{arith}
 use borrow.Author.Needs.{needs}
 use Rattle.page_figures.proofs.Stages.{lentTable, sheets, table-cut}
-use Rattle.page_figures.proofs.fill_sheets.Statement.{statement}
-use Rattle.page_figures.proofs.fill_sheets.Tie as tie
+use Rattle.page_figures.proofs.fill_coefficients.Statement.{statement}
+use Rattle.page_figures.proofs.fill_coefficients.Tie as tie
 
 part-coefficients-end : tie.Need-part-coefficients-end
 part-coefficients-end c =
@@ -22,8 +22,8 @@ returns c =
     let l = s .pre .1 in
     table-cut n cells (sheets (lentTable n cells) (l .0) (l .3) (l .1) (l .2) (l .4) (q .coefficients .ensures))
 
-pub fill-sheets-spec : {M : Type 1} → statement M
-fill-sheets-spec =
+pub fill-coefficients-spec : {M : Type 1} → statement M
+fill-coefficients-spec =
     tie.close
     (tie.spec
     (λ c. search needs) (λ c. search needs) (λ c. search needs) part-coefficients-end (λ c. search needs) (λ c. search needs)
