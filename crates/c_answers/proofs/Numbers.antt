@@ -1,7 +1,7 @@
 -- The number alone tells whether a call was accepted: acceptance has number 0, and a refusal another. So what a call promises of its answer, it
 -- promises of the numbers that tell it. Assumes nothing.
 use mathlib.Core.Bool.{Bool, true, false, _&&_, cond}
-use mathlib.Core.List.{List, [], _∷_, _++_}
+use mathlib.Core.List.{List, [], _∷_, _++_, map}
 use mathlib.Core.Path.{_≡_, refl, sym, subst⁻¹}
 use Prim.Native.Nat.{ℕ, zero, suc, _+_, _≤_}
 use native.Mathlib.Omega.{arith}
@@ -9,12 +9,12 @@ use borrow.Author.Tests.{ne-eqb, leb-true}
 use lib.Dec.{eqb, leb, ltb}
 use lib.ListN.{length}
 use Rattle.model.specs.Numbers.{at, cell, first, transposed}
-use Rattle.model.specs.Table.{Table}
+use Rattle.model.specs.Table.{Table, sectorLimit}
 use Rattle.model.specs.Rounds.{settling, inverseRounds}
-use Rattle.model.specs.Checks.{Report, reportRead, reportTold, Check, amountLimit, balanceChecks, counted, refuses, verdict, columnSums, columnsSettle, demandLeft, demandLimit, inducedAmounts, lengths, productionTotal, riseLimit, single, size}
+use Rattle.model.specs.Checks.{Report, reportRead, reportTold, Check, amountLimit, balanceChecks, countedOn, bounded, refuses, verdict, columnSums, columnsSettle, demandLeft, demandLimit, inducedAmounts, lengths, productionTotal, riseLimit, single, size}
 use Rattle.model.specs.Calls.{coefficientsReport, domesticCoefficients, impliedReport, inducedReport, inverseReport, matrixChecks, priceReport, productionReport, settlingChecks, tableChecks}
 use Rattle.model.specs.Contracts.{Derived, Produced, Priced, Implied, Induced, Inverted, Slices, FileRead, PagePrinted}
-use Rattle.model.specs.File.{Entry, Reading, answerOf, called, entryAt, fits, insideAt, kindAt, named, nextAt, reading, walk, wholeAt}
+use Rattle.model.specs.File.{Entry, Reading, answerOf, called, entryAt, fits, insideAt, kindAt, namedBefore, nextAt, reading, walk, wholeAt}
 use Rattle.model.specs.Page.{page, pageLimit, pageReport}
 use Rattle.theory.proofs.Lists.{and-true}
 use Rattle.c_answers.specs.Told.{Told}
@@ -42,7 +42,7 @@ numbered (q ∷ qs) ks e =
     split false h later = later
 
 -- slices that are counted on, before checks that have other numbers
-counted-nonzero : (place limit : ℕ) (ss : List (List ℕ)) (qs rs : List Check) → nonzero (qs ++ rs) ≡ true → nonzero (counted place limit ss ++ qs ++ rs) ≡ true
+counted-nonzero : (place limit : ℕ) (ss : List (List ℕ)) (qs rs : List Check) → nonzero (qs ++ rs) ≡ true → nonzero (countedOn place (map (bounded 3 0 limit) ss) ++ qs ++ rs) ≡ true
 counted-nonzero place limit [] qs rs e = e
 counted-nonzero place limit (s ∷ ss) qs rs e = counted-nonzero (place + length s) limit ss qs rs e
 
@@ -76,7 +76,7 @@ pub induced-number : (n : ℕ) (a m v F y lent : List ℕ) → Numbered (induced
 unfolding inducedReport
 induced-number n a m v F y lent =
     let columns = length m ∷ length v ∷ length F ∷ length y ∷ lent in
-    numbered (size n ∷ lengths n (length a ∷ []) columns ∷ inducedAmounts n a m v F ++ (productionTotal n y ∷ [])) [] refl
+    numbered (size n ∷ lengths n (length a ∷ []) columns ∷ inducedAmounts a m v F ++ (productionTotal n y ∷ [])) [] refl
 
 -- ---- the reader: a file is accepted exactly where its number is 0
 pub record NumberedRead (o : Reading) : Type 0 where
@@ -96,7 +96,7 @@ walk-number : (fuel : ℕ) (s : List ℕ) (n : ℕ) (es : List Entry) (at : ℕ)
 unfolding walk
 walk-number zero s n es at = refusal 15 (length s) (omega arith)
 walk-number (suc fuel) s n es at =
-    let fresh = either (named es (entryAt s at)) (refusal 14 at (omega arith)) (walk-number fuel s n (entryAt s at ∷ es) (nextAt s at)) in
+    let fresh = either (namedBefore es (entryAt s at)) (refusal 14 at (omega arith)) (walk-number fuel s n (entryAt s at ∷ es) (nextAt s at)) in
     let inside = either (insideAt s at n) fresh (refusal 13 at (omega arith)) in
     let end = either (eqb (at + 1) (length s)) (accepted n es) (refusal 15 (at + 1) (omega arith)) in
     let body = either (eqb (kindAt s at) 8) end inside in
@@ -108,7 +108,7 @@ pub read-number : (x : ℕ) (columns : List ℕ) (marks : ℕ) (s : List ℕ) �
 unfolding called reading
 read-number x columns marks s =
     let n = cell s 1 in
-    let sized = either (eqb (kindAt s 0) 1 && (leb 1 n && leb n 40)) (walk-number (length s) s n [] 2) (refusal 12 0 (omega arith)) in
+    let sized = either (eqb (kindAt s 0) 1 && (leb 1 n && leb n sectorLimit)) (walk-number (length s) s n [] 2) (refusal 12 0 (omega arith)) in
     let whole = either (wholeAt s 0) sized (refusal 11 0 (omega arith)) in
     either (fits x columns marks) (either (eqb (length s) 0) (refusal 15 0 (omega arith)) whole) (refusal 2 0 (omega arith))
 

@@ -9,39 +9,40 @@ use borrow.Author.Tests.{eqb-true}
 use lib.Dec.{eqb}
 use lib.ListN.{take, drop, replicate}
 use Rattle.model.specs.Numbers.{all}
-use Rattle.model.specs.File.{Reading, reading, fits, called, flowsRead, columnRead}
+use Rattle.model.specs.Table.{sectorLimit, sheetLimit}
+use Rattle.model.specs.File.{Reading, reading, fits, called, flowsRead, columnRead, wordLimit}
 use Rattle.theory.proofs.Lists.{and-true}
 use Rattle.file_walk.specs.Steps.{Held}
 use Rattle.file_reader.specs.Reader.{Put}
 
 pub record Fit (x f e m v p r : ℕ) : Type 0 where
-  pub flows : x ≡ 1600
-  pub finalDemand : f ≡ 40
-  pub exports : e ≡ 40
-  pub imports : m ≡ 40
-  pub valueAdded : v ≡ 40
-  pub production : p ≡ 40
-  pub rises : r ≡ 40
+  pub flows : x ≡ sheetLimit
+  pub finalDemand : f ≡ sectorLimit
+  pub exports : e ≡ sectorLimit
+  pub imports : m ≡ sectorLimit
+  pub valueAdded : v ≡ sectorLimit
+  pub production : p ≡ sectorLimit
+  pub rises : r ≡ sectorLimit
 
 pub fit : (x f e m v p r k : ℕ) → fits x (f ∷ e ∷ m ∷ v ∷ p ∷ r ∷ []) k ≡ true → Fit x f e m v p r
 fit x f e m v p r k q =
     let c : List ℕ = f ∷ e ∷ m ∷ v ∷ p ∷ r ∷ [] in
-    let a = and-true (eqb 1600 x && all (eqb 40) c) (eqb 46 k) q in
-    let b = and-true (eqb 1600 x) (all (eqb 40) c) (a .0) in
-    let f' = and-true (eqb 40 f) (all (eqb 40) (e ∷ m ∷ v ∷ p ∷ r ∷ [])) (b .1) in
-    let e' = and-true (eqb 40 e) (all (eqb 40) (m ∷ v ∷ p ∷ r ∷ [])) (f' .1) in
-    let m' = and-true (eqb 40 m) (all (eqb 40) (v ∷ p ∷ r ∷ [])) (e' .1) in
-    let v' = and-true (eqb 40 v) (all (eqb 40) (p ∷ r ∷ [])) (m' .1) in
-    let p' = and-true (eqb 40 p) (all (eqb 40) (r ∷ [])) (v' .1) in
-    let r' = and-true (eqb 40 r) true (p' .1) in
+    let a = and-true (eqb sheetLimit x && all (eqb sectorLimit) c) (eqb wordLimit k) q in
+    let b = and-true (eqb sheetLimit x) (all (eqb sectorLimit) c) (a .0) in
+    let f' = and-true (eqb sectorLimit f) (all (eqb sectorLimit) (e ∷ m ∷ v ∷ p ∷ r ∷ [])) (b .1) in
+    let e' = and-true (eqb sectorLimit e) (all (eqb sectorLimit) (m ∷ v ∷ p ∷ r ∷ [])) (f' .1) in
+    let m' = and-true (eqb sectorLimit m) (all (eqb sectorLimit) (v ∷ p ∷ r ∷ [])) (e' .1) in
+    let v' = and-true (eqb sectorLimit v) (all (eqb sectorLimit) (p ∷ r ∷ [])) (m' .1) in
+    let p' = and-true (eqb sectorLimit p) (all (eqb sectorLimit) (r ∷ [])) (v' .1) in
+    let r' = and-true (eqb sectorLimit r) true (p' .1) in
     record {
-      flows = sym (eqb-true 1600 x (b .0));
-      finalDemand = sym (eqb-true 40 f (f' .0));
-      exports = sym (eqb-true 40 e (e' .0));
-      imports = sym (eqb-true 40 m (m' .0));
-      valueAdded = sym (eqb-true 40 v (v' .0));
-      production = sym (eqb-true 40 p (p' .0));
-      rises = sym (eqb-true 40 r (r' .0));
+      flows = sym (eqb-true sheetLimit x (b .0));
+      finalDemand = sym (eqb-true sectorLimit f (f' .0));
+      exports = sym (eqb-true sectorLimit e (e' .0));
+      imports = sym (eqb-true sectorLimit m (m' .0));
+      valueAdded = sym (eqb-true sectorLimit v (v' .0));
+      production = sym (eqb-true sectorLimit p (p' .0));
+      rises = sym (eqb-true sectorLimit r (r' .0));
     }
 
 module _ (x : ℕ) (columns : List ℕ) (k : ℕ) (s : List ℕ) where
@@ -53,8 +54,8 @@ module _ (x : ℕ) (columns : List ℕ) (k : ℕ) (s : List ℕ) where
   unfolding called
   called-unfit e = rw e refl
 
-pub fit-words : (x : ℕ) (columns : List ℕ) (k : ℕ) → fits x columns k ≡ true → k ≡ 46
-fit-words x columns k q = sym (eqb-true 46 k (and-true (eqb 1600 x && all (eqb 40) columns) (eqb 46 k) q .1))
+pub fit-words : (x : ℕ) (columns : List ℕ) (k : ℕ) → fits x columns k ≡ true → k ≡ wordLimit
+fit-words x columns k q = sym (eqb-true wordLimit k (and-true (eqb sheetLimit x && all (eqb sectorLimit) columns) (eqb wordLimit k) q .1))
 
 -- either the slices have the lengths that are asked for, or nothing is read
 pub fit-or-not : (x f e m v p r k : ℕ) (s : List ℕ) (o : Reading) → o ≡ called x (f ∷ e ∷ m ∷ v ∷ p ∷ r ∷ []) k s → Fit x f e m v p r ⊎ (o ≡ Reading.refused 2 0)
@@ -79,8 +80,8 @@ module _ (o : Reading) (cells : List ℕ) (h : Held o cells) where
       go (no q) (inl e) = absurd (q e)
       go (no q) (inr e) = t .cleared q ∙ sym (ap (g len) e ∙ z len 2 0)
 
-  pub put-flows : (len : ℕ) (out : List ℕ) → (len ≡ 1600) ⊎ (o ≡ Reading.refused 2 0) → Put cells 0 1600 len out → out ≡ flowsRead len o
-  put-flows = put flowsRead (λ len q p. refl) 0 1600 (h .flows)
+  pub put-flows : (len : ℕ) (out : List ℕ) → (len ≡ sheetLimit) ⊎ (o ≡ Reading.refused 2 0) → Put cells 0 sheetLimit len out → out ≡ flowsRead len o
+  put-flows = put flowsRead (λ len q p. refl) 0 sheetLimit (h .flows)
 
-  pub put-column : (c : ℕ) → 40 ≤ c → c < 46 → (len : ℕ) (out : List ℕ) → (len ≡ 40) ⊎ (o ≡ Reading.refused 2 0) → Put cells (c * 40) 40 len out → out ≡ columnRead c len o
-  put-column c lo hi = put (columnRead c) (λ len q p. refl) (c * 40) 40 (h .columns c lo hi)
+  pub put-column : (c : ℕ) → sectorLimit ≤ c → c < wordLimit → (len : ℕ) (out : List ℕ) → (len ≡ sectorLimit) ⊎ (o ≡ Reading.refused 2 0) → Put cells (c * sectorLimit) sectorLimit len out → out ≡ columnRead c len o
+  put-column c lo hi = put (columnRead c) (λ len q p. refl) (c * sectorLimit) sectorLimit (h .columns c lo hi)

@@ -12,8 +12,8 @@ use lib.Dec.{eqb, lit<}
 use lib.ListN.{length, set, replicate, getD-replicate, length-replicate, List·getD-eq-default}
 use lib.Pow.{pow-lt, pow-add, shl-shr, shl-exact}
 use lib.Seq.{getD-set-same, getD-set-other}
-use Rattle.model.specs.Numbers.{cell}
-use Rattle.file_records.specs.Marks.{bit, marked}
+use Rattle.model.specs.Numbers.{cell, bit}
+use Rattle.file_records.specs.Marks.{marked}
 
 -- of two bits, `or` is the larger
 or-bits : (r s : ℕ) → r < 2 → s < 2 → bitOr r s ≡ max r s
@@ -77,19 +77,19 @@ module _ (marks : List ℕ) (l p : ℕ) (hl : l < length marks) (hp : p < 64) wh
       ap (λ (x : ℕ). eqb x 1) (new-bit k ∙ ap (max (bit word k)) (bit-other p k h) ∙ max-zero (bit word k))
       ∙ ap (λ (b : Bool). b || eqb (bit word k) 1) (sym (ne-eqb p k h))
 
-  in-word : (i k : ℕ) → Dec (l ≡ i) → marked (set marks l new) i k ≡ (eqb l i && eqb p k || marked marks i k)
+  in-marks : (i k : ℕ) → Dec (l ≡ i) → marked (set marks l new) i k ≡ (eqb l i && eqb p k || marked marks i k)
   unfolding marked
-  in-word i k (yes e) =
+  in-marks i k (yes e) =
       ap (λ (j : ℕ). eqb (bit (cell (set marks l new) j) k) 1) (sym e)
       ∙ ap (λ (w : ℕ). eqb (bit w k) 1) (getD-set-same marks l new 0 hl)
       ∙ in-word k (ℕ-discrete p k)
       ∙ ap₂ (λ (b : Bool) (j : ℕ). b && eqb p k || eqb (bit (cell marks j) k) 1) (sym (eq-eqb l i e)) e
-  in-word i k (no h) =
+  in-marks i k (no h) =
       ap (λ (w : ℕ). eqb (bit w k) 1) (getD-set-other marks l i new 0 (λ e. h (sym e)))
       ∙ ap (λ (b : Bool). b && eqb p k || eqb (bit (cell marks i) k) 1) (sym (ne-eqb l i h))
 
   pub marked-more : (i k : ℕ) → marked (set marks l new) i k ≡ (eqb l i && eqb p k || marked marks i k)
-  marked-more i k = in-word i k (ℕ-discrete l i)
+  marked-more i k = in-marks i k (ℕ-discrete l i)
 
 -- words of 0 mark nothing
 pub marked-none : (len i k : ℕ) → marked (replicate len 0) i k ≡ false

@@ -7,7 +7,7 @@ use native.Mathlib.Numerals.{add-one}
 use native.Mathlib.Omega.{arith}
 use lib.Dec.{eqb, lit≤}
 use lib.ListN.{length, replicate, length-replicate}
-use Rattle.model.specs.File.{Entry, Reading, walk, answerOf}
+use Rattle.model.specs.File.{Entry, Reading, walk, answerOf, cellLimit, wordLimit}
 use Rattle.model.specs.declared.TableRead.the-variants.{Read, Refused}
 use Rattle.file_records.specs.Marks.{marked}
 use Rattle.file_records.proofs.MarkLaws.{marked-none}
@@ -27,7 +27,7 @@ as-entry e l p a x y z =
 pub keeps :
     (n : ℕ) (es : List Entry) (cells marks cells' marks' : List ℕ) (e : Entry)
     → ((i k : ℕ) → marked marks' i k ≡ (eqb (e .word) i && eqb (e .position) k || marked marks i k))
-    → (Held (Reading.table n es) cells → Held (Reading.table n (e ∷ es)) cells') → length marks' ≡ 46 → Kept n es cells marks → Kept n (e ∷ es) cells' marks'
+    → (Held (Reading.table n es) cells → Held (Reading.table n (e ∷ es)) cells') → length marks' ≡ wordLimit → Kept n es cells marks → Kept n (e ∷ es) cells' marks'
 keeps n es cells marks cells' marks' e m h w k = record {
   held = h (k .held);
   agrees = record {
@@ -44,12 +44,12 @@ takes s n at marks e l p a next x y z w m =
     let same = as-entry e l p a x y z in
     (λ fuel es g. w fuel es g ∙ ap (λ (d : Entry). walk fuel s n (d ∷ es) next) (sym same), subst (λ (d : Entry). Names s n at d next) (sym same) m)
 
-pub keeps-none : (n : ℕ) (cells marks : List ℕ) → cells ≡ replicate 1840 0 → marks ≡ replicate 46 0 → Kept n [] cells marks
+pub keeps-none : (n : ℕ) (cells marks : List ℕ) → cells ≡ replicate cellLimit 0 → marks ≡ replicate wordLimit 0 → Kept n [] cells marks
 keeps-none n cells marks x y = record {
   held = held-none cells x n;
   agrees = record {
-    same = λ d. ap (λ (l : List ℕ). marked l (d .word) (d .position)) y ∙ marked-none 46 (d .word) (d .position);
-    words = ap length y ∙ length-replicate {A = ℕ} 46 0;
+    same = λ d. ap (λ (l : List ℕ). marked l (d .word) (d .position)) y ∙ marked-none wordLimit (d .word) (d .position);
+    words = ap length y ∙ length-replicate {A = ℕ} wordLimit 0;
   };
 }
 
@@ -113,7 +113,7 @@ module _ (s : List ℕ) (n : ℕ) (cells marks : List ℕ) (at count : ℕ) (w :
       }
 
 -- the answer, and the cells after it
-pub cleared-refused : (o : Reading) (q p : ℕ) (cells : List ℕ) → o ≡ Reading.refused q p → cells ≡ replicate 1840 0 → (Refused q p ≡ answerOf o) × Held o cells
+pub cleared-refused : (o : Reading) (q p : ℕ) (cells : List ℕ) → o ≡ Reading.refused q p → cells ≡ replicate cellLimit 0 → (Refused q p ≡ answerOf o) × Held o cells
 cleared-refused o q p cells e z = (ap answerOf (sym e), subst (λ (r : Reading). Held r cells) (sym e) (held-refused cells z q p))
 
 pub cleared-read : (o : Reading) (n k : ℕ) (cells : List ℕ) → Accepts o n k cells → (Read n k ≡ answerOf o) × Held o cells

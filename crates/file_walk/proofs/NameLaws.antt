@@ -10,7 +10,8 @@ use borrow.Author.Tests.{leb-true, eqb-true}
 use lib.Dec.{leb, lit<, lit≤}
 use lib.ListN.{length}
 use Rattle.model.specs.Numbers.{cell}
-use Rattle.model.specs.File.{recordLengths, columnWords, kindAt, nextAt, wholeAt, insideAt, entryAt}
+use Rattle.model.specs.Table.{sectorLimit}
+use Rattle.model.specs.File.{recordLengths, columnWords, kindAt, nextAt, wholeAt, insideAt, entryAt, wordLimit}
 use Rattle.theory.proofs.Lists.{and-true}
 use Rattle.file_records.specs.Bodies.{Body, Sectors}
 use Rattle.file_records.proofs.RecordLaws.{sector, inside-by, inside-flow, entry-flow, entry-column}
@@ -20,8 +21,8 @@ use Rattle.file_walk.specs.Steps.{Begun, Naming, Names}
 -- what is known of a kind that names a cell of a column
 pub record Column (kind : ℕ) : Type 0 where
   pub size : cell recordLengths kind ≡ 6
-  pub low : 40 ≤ cell columnWords kind
-  pub high : cell columnWords kind < 46
+  pub low : sectorLimit ≤ cell columnWords kind
+  pub high : cell columnWords kind < wordLimit
 
 column : (kind : ℕ) → 1 ≤ cell recordLengths kind → (kind ≡ 1 → ⊥) → (kind ≡ 2 → ⊥) → (kind ≡ 8 → ⊥) → Column kind
 column zero l a b e = absurd (not-suc-le-zero l)
@@ -67,7 +68,7 @@ module _ (s : List ℕ) (at : ℕ) (b : Begun s at) where
         go (yes k) = let z = flow-size k in let p = parts .1 in omega arith
         go (no k) = let z = column-of k .size in let p = parts .1 in omega arith
 
-    module _ (n : ℕ) (small : n ≤ 40) (i : insideAt s at n ≡ true) where
+    module _ (n : ℕ) (small : n ≤ sectorLimit) (i : insideAt s at n ≡ true) where
       abbrev one : ℕ
       one = cell s (at + 1)
 

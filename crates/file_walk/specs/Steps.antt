@@ -5,7 +5,8 @@ use mathlib.Core.List.{List, [], _∷_}
 use mathlib.Core.Path.{_≡_}
 use Prim.Native.Nat.{ℕ, suc, _*_, _≤_, _<_}
 use lib.ListN.{length, take, drop}
-use Rattle.model.specs.File.{Entry, kindAt, wholeAt, namedBefore, Reading, walk, reading, flowsRead, columnRead}
+use Rattle.model.specs.Table.{sectorLimit, sheetLimit}
+use Rattle.model.specs.File.{Entry, kindAt, wholeAt, namedBefore, Reading, walk, reading, flowsRead, columnRead, cellLimit, wordLimit}
 use Rattle.model.specs.declared.TableRead.{TableRead}
 use Rattle.model.specs.declared.TableRead.the-variants.{Read, Refused}
 use Rattle.theory_files.specs.Files.{Within}
@@ -15,14 +16,14 @@ use Rattle.file_walk.specs.declared.Step.the-variants.{Stop, End, Cell}
 
 -- the list holds the cells of a reading
 pub record Held (o : Reading) (cells : List ℕ) : Type 0 where
-  pub flows : take 1600 cells ≡ flowsRead 1600 o
-  pub columns : (c : ℕ) → 40 ≤ c → c < 46 → take 40 (drop (c * 40) cells) ≡ columnRead c 40 o
-  pub long : length cells ≡ 1840
+  pub flows : take sheetLimit cells ≡ flowsRead sheetLimit o
+  pub columns : (c : ℕ) → sectorLimit ≤ c → c < wordLimit → take sectorLimit (drop (c * sectorLimit) cells) ≡ columnRead c sectorLimit o
+  pub long : length cells ≡ cellLimit
 
 -- the marks are those of the named cells
 pub record Agrees (es : List Entry) (marks : List ℕ) : Type 0 where
   pub same : (e : Entry) → marked marks (e .word) (e .position) ≡ namedBefore es e
-  pub words : length marks ≡ 46
+  pub words : length marks ≡ wordLimit
 
 -- both, of the cells named so far in a table of n sectors
 pub record Kept (n : ℕ) (es : List Entry) (cells marks : List ℕ) : Type 0 where
@@ -68,4 +69,4 @@ Ends o (Read n k) cells = Accepts o n k cells
 -- what the first record is answered: a refusal, or n, from which the walk goes on at offset 2
 abbrev pub Opened : List ℕ → TableRead → Type 0
 Opened s (Refused q p) = reading s ≡ Reading.refused q p
-Opened s (Read n k) = (reading s ≡ walk (length s) s n [] 2) × (n ≤ 40) × (2 ≤ length s)
+Opened s (Read n k) = (reading s ≡ walk (length s) s n [] 2) × (n ≤ sectorLimit) × (2 ≤ length s)

@@ -20,12 +20,15 @@ ghost use Rattle.model.specs.Contracts.{Induced};
 // Question 3: shares within one, amounts within 1,000,000,000.
 fn check_shares(n: usize, a: &[u64], m: &[u64], v: &[u64], final_demand: &[u64]) -> Answer
     requires { ⌜ (n ≤ 40) × (length (now a) ≡ n * n) × (length (now m) ≡ n) × (length (now v) ≡ n) × (length (now «final_demand») ≡ n) ⌝ }
-    ensures { λ r. ⌜ report r ≡ verdict (inducedAmounts n (now (a .entry)) (now (m .entry)) (now (v .entry)) (now («final_demand» .entry))) [] ⌝ }
+    ensures { λ r. ⌜ report r ≡ verdict (inducedAmounts (now (a .entry)) (now (m .entry)) (now (v .entry)) (now («final_demand» .entry))) [] ⌝ }
 {
     let inputs = matrix_within(n, a, 1_000_000);
-    let imports = next_within(inputs, n * n, 1_000_000, m);
-    let values = next_within(imports, n * n + n, 1_000_000, v);
-    next_within(values, n * n + n + n, 1_000_000_000, final_demand)
+    let from_imports = a.len();
+    let imports = next_within(inputs, from_imports, 1_000_000, m);
+    let from_values = from_imports + m.len();
+    let values = next_within(imports, from_values, 1_000_000, v);
+    let from_demand = from_values + v.len();
+    next_within(values, from_demand, 1_000_000_000, final_demand)
 }
 
 // Induced value added: each sector's share of its production.

@@ -9,7 +9,7 @@ use lib.ListN.{length}
 use Rattle.model.specs.Numbers.{one, sum, cell, at, oriented}
 use Rattle.model.specs.Rounds.{settling, settled, unit, inverse}
 use Rattle.model.specs.Promises.{AcceptedMatrix}
-use Rattle.inverse_ratios.specs.Columns.{cellLimit, Dispersed}
+use Rattle.inverse_ratios.specs.Columns.{inverseCellLimit, Dispersed}
 use Rattle.inverse_ratios.proofs.Dispersion.{turned}
 use Rattle.inverse_columns.proofs.Leontief.{unit-cell, unit-small, inverse-cell, length-inverse}
 use Rattle.theory.proofs.Sums.{sum-mono, sum-const, sum-cell}
@@ -19,7 +19,7 @@ use Rattle.theory_rounds.proofs.Accuracy.{rounds-bounded}
 
 module _ {n : ℕ} {d : List ℕ} (A : AcceptedMatrix n d) (budget : ℕ) where
   -- no cell of the inverse is over 20 times the total of its start
-  settled-small : (i j : ℕ) → i < n → cell (settled n (at n d) (unit n j) budget) i ≤ cellLimit
+  settled-small : (i j : ℕ) → i < n → cell (settled n (at n d) (unit n j) budget) i ≤ inverseCellLimit
   unfolding settled
   settled-small i j h =
       let few = A .few in

@@ -6,6 +6,7 @@ use native.Mathlib.Nat.{mul-le-mul, mul-le-mul-right, suc-mul}
 use native.Mathlib.Omega.{arith}
 use borrow.Author.Tests.{leb-true, eqb-true, ltb-true}
 use lib.Dec.{leb, ltb, eqb}
+use Rattle.model.specs.Table.{sectorLimit}
 use Rattle.theory.proofs.Lists.{and-true}
 
 pub record Row (n cells sector : ℕ) : Type 0 where
@@ -13,11 +14,11 @@ pub record Row (n cells sector : ℕ) : Type 0 where
   pub whole : n * n ≡ cells
   pub within : sector * n + n ≤ n * n
 
-pub has-row : (n cells sector : ℕ) → leb 1 n && leb n 40 && eqb (n * n) cells && ltb sector n ≡ true → Row n cells sector
+pub has-row : (n cells sector : ℕ) → leb 1 n && leb n sectorLimit && eqb (n * n) cells && ltb sector n ≡ true → Row n cells sector
 has-row n cells sector e =
-    let p = and-true (leb 1 n && leb n 40 && eqb (n * n) cells) (ltb sector n) e in
-    let q = and-true (leb 1 n && leb n 40) (eqb (n * n) cells) (p .0) in
-    let few = leb-true n 40 (and-true (leb 1 n) (leb n 40) (q .0) .1) in
+    let p = and-true (leb 1 n && leb n sectorLimit && eqb (n * n) cells) (ltb sector n) e in
+    let q = and-true (leb 1 n && leb n sectorLimit) (eqb (n * n) cells) (p .0) in
+    let few = leb-true n sectorLimit (and-true (leb 1 n) (leb n sectorLimit) (q .0) .1) in
     record {
       small = mul-le-mul few few;
       whole = eqb-true (n * n) cells (q .1);

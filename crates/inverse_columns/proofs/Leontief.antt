@@ -12,6 +12,7 @@ use lib.Dec.{eqb}
 use lib.ListN.{length, set, replicate, take, length-set, getD-replicate}
 use lib.Seq.{length-take-le, getD-take, getD-set-same, getD-set-other}
 use Rattle.model.specs.Numbers.{one, largest, cell, at}
+use Rattle.model.specs.Table.{sectorLimit}
 use Rattle.model.specs.Rounds.{settling, settled, unit, inverse, inverseRounds}
 use Rattle.model.specs.Checks.{Report, accepts, refuses, reportRounds, roundsOf, verdict, output, single, settles, columnsSettle}
 use Rattle.model.specs.Calls.{matrixChecks, inverseReport}
@@ -37,21 +38,21 @@ module _ (n j : ℕ) where
       within false = zero-le
 
   -- as the first n cells of an array
-  pub unit-made : n ≤ 40 → j < n → take n (set (replicate 40 0) j one) ≡ unit n j
+  pub unit-made : n ≤ sectorLimit → j < n → take n (set (replicate sectorLimit 0) j one) ≡ unit n j
   unfolding unit
   unit-made few h =
       tabulated n n (λ i. cond (eqb i j) one 0) (take n array) (length-take-le n array (omega (arith, whole))) (le-refl n)
       (λ k l. getD-take n array k 0 l ∙ split k (lt-of-lt-of-le l few) (eqb k j) refl)
     where
       array : List ℕ
-      array = set (replicate 40 0) j one
+      array = set (replicate sectorLimit 0) j one
 
-      whole : length array ≡ 40
-      whole = length-set (replicate 40 0) j one
+      whole : length array ≡ sectorLimit
+      whole = length-set (replicate sectorLimit 0) j one
 
-      split : (k : ℕ) → k < 40 → (b : Bool) → eqb k j ≡ b → cell array k ≡ cond b one 0
-      split k l true e = rw (eqb-true k j e) (getD-set-same (replicate 40 0) j one 0 (lt-of-lt-of-le h few))
-      split k l false e = getD-set-other (replicate 40 0) j k one 0 (eqb-false k j e) ∙ getD-replicate 40 k 0 0 l
+      split : (k : ℕ) → k < sectorLimit → (b : Bool) → eqb k j ≡ b → cell array k ≡ cond b one 0
+      split k l true e = rw (eqb-true k j e) (getD-set-same (replicate sectorLimit 0) j one 0 (lt-of-lt-of-le h few))
+      split k l false e = getD-set-other (replicate sectorLimit 0) j k one 0 (eqb-false k j e) ∙ getD-replicate sectorLimit k 0 0 l
 
 -- ---- a check with one place, answered
 one-passed : (q m k : ℕ) (b : Bool) → accepts (k ∷ []) ≡ verdict (single q b ∷ []) (m ∷ []) → (b ≡ true) × (k ≡ m)

@@ -2,20 +2,21 @@
 use Prim.Native.Nat.{ℕ, _*_, _≤_, _<_}
 use native.Mathlib.Nat.{le-trans}
 use native.Mathlib.Omega.{arith}
-use Rattle.model.specs.Numbers.{transposed}
-use Rattle.inverse_ratios.specs.Columns.{columnSum, allCells, cellLimit, columnLimit, Dispersed}
+use Rattle.model.specs.Numbers.{transposed, columnSum, allCells}
+use Rattle.model.specs.Table.{sectorLimit}
+use Rattle.inverse_ratios.specs.Columns.{inverseCellLimit, inverseColumnLimit, Dispersed}
 use Rattle.theory.proofs.Sums.{sum-mono, sum-const, sum-cell}
 
 module _ {n : ℕ} {c : ℕ → ℕ → ℕ} (D : Dispersed n c) where
-  pub column-small : (j : ℕ) → j < n → columnSum n c j ≤ columnLimit
+  pub column-small : (j : ℕ) → j < n → columnSum n c j ≤ inverseColumnLimit
   column-small j h =
       let few = D .few in
-      omega (arith, sum-mono n {f = transposed c j} {g = λ i. cellLimit} (λ i l. D .small i j l h), sum-const n cellLimit)
+      omega (arith, sum-mono n {f = transposed c j} {g = λ i. inverseCellLimit} (λ i l. D .small i j l h), sum-const n inverseCellLimit)
 
-  pub cells-small : allCells n c ≤ 40 * columnLimit
+  pub cells-small : allCells n c ≤ sectorLimit * inverseColumnLimit
   cells-small =
       let few = D .few in
-      omega (arith, sum-mono n {f = columnSum n c} {g = λ j. columnLimit} column-small, sum-const n columnLimit)
+      omega (arith, sum-mono n {f = columnSum n c} {g = λ j. inverseColumnLimit} column-small, sum-const n inverseColumnLimit)
 
   pub cells-positive : 1 ≤ allCells n c
   cells-positive =

@@ -3,9 +3,9 @@ use cells::cell_at;
 ghost use mathlib.Core.Path.{_≡_};
 ghost use Prim.Native.Nat.{_*_, _<_};
 ghost use lib.ListN.{length};
-ghost use Rattle.model.specs.Numbers.{at, oriented};
+ghost use Rattle.model.specs.Numbers.{at, oriented, columnSum, allCells};
 ghost use Rattle.model.specs.Rounds.{dispersion};
-ghost use Rattle.inverse_ratios.specs.Columns.{columnSum, allCells, Dispersed};
+ghost use Rattle.inverse_ratios.specs.Columns.{Dispersed};
 
 // The sum of column j of a sheet; transposed, of its row j.
 fn column_sum(n: usize, sheet: &[u64], transposed: bool, j: usize) -> u64

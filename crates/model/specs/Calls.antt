@@ -11,19 +11,19 @@ use Rattle.model.specs.Checks.{Report, Check, verdict, single, size, len
 
 module _ (t : Table) where
   -- The results of sheets from a table: a, v, m, d and f
-  unfoldable pub inputCoefficients : List ℕ
+  unfoldable pub inputCoefficients : Cells
   inputCoefficients = matrix (t .sectors) (inputCoefficient t)
 
-  unfoldable pub valueAddedCoefficients : List ℕ
+  unfoldable pub valueAddedCoefficients : Cells
   valueAddedCoefficients = tabulate (t .sectors) (valueAddedCoefficient t)
 
-  unfoldable pub importCoefficients : List ℕ
+  unfoldable pub importCoefficients : Cells
   importCoefficients = tabulate (t .sectors) (importCoefficient t)
 
-  unfoldable pub domesticCoefficients : List ℕ
+  unfoldable pub domesticCoefficients : Cells
   domesticCoefficients = matrix (t .sectors) (domesticCoefficient t)
 
-  unfoldable pub domesticDemands : List ℕ
+  unfoldable pub domesticDemands : Cells
   domesticDemands = tabulate (t .sectors) (domesticDemand t)
 
   -- Sheets from a table ask 1 to 7
@@ -36,7 +36,7 @@ module _ (t : Table) where
   coefficientsReport matrices lent =
       verdict (tableChecks matrices lent ++ (columnSums (t .sectors) (at (t .sectors) domesticCoefficients) ∷ [])) []
 
-module _ (n : ℕ) (d : List ℕ) where
+module _ (n : ℕ) (d : Cells) where
   -- Every call on a domestic sheet asks 1, 2 and 7 first
   abbrev pub matrixChecks : (matrices lent : List ℕ) → List Check
   matrixChecks matrices lent = size n ∷ lengths n (length d ∷ matrices) lent ∷ columnSums n (at n d) ∷ []
@@ -72,4 +72,4 @@ module _ (n : ℕ) (d : List ℕ) where
 unfoldable pub inducedReport : (n : ℕ) (a m v F y : Cells) (lent : List ℕ) → Report
 inducedReport n a m v F y lent =
     let columns = length m ∷ length v ∷ length F ∷ length y ∷ lent in
-    verdict (size n ∷ lengths n (length a ∷ []) columns ∷ inducedAmounts n a m v F ++ (productionTotal n y ∷ [])) []
+    verdict (size n ∷ lengths n (length a ∷ []) columns ∷ inducedAmounts a m v F ++ (productionTotal n y ∷ [])) []

@@ -1,11 +1,11 @@
 -- Document 01, "Questions a call asks, in this order". A check is a test at each of its places.
 use mathlib.Core.Bool.{Bool, true, false, _&&_, cond}
-use mathlib.Core.List.{List, [], _∷_}
+use mathlib.Core.List.{List, [], _∷_, map}
 use Prim.Native.Nat.{ℕ, suc, _+_, _*_}
 use lib.Dec.{eqb, leb, ltb}
 use lib.ListN.{length, replicate}
-use Rattle.model.specs.Numbers.{one, sum, first, all, cell, at, transposed}
-use Rattle.model.specs.Table.{Table, flow, need, exports, imports, valueAdded, production}
+use Rattle.model.specs.Numbers.{Cells, Sheet, one, sum, first, all, cell, at, columnSum}
+use Rattle.model.specs.Table.{Table, fewSectors, flow, need, exports, imports, valueAdded, production}
 use Rattle.model.specs.Rounds.{intermediate, settling, unit}
 use Rattle.model.specs.declared.Answer.{Answer}
 use Rattle.model.specs.declared.Answer.the-variants.{Accepted, Refused}
@@ -73,7 +73,7 @@ verdict (q ∷ qs) ks =
     cond (ltb cell (q .places)) (refuses (length ks) (q .number) (q .offset + cell)) later
 
 -- What a call leaves in an output slice: the result, or 0 in every cell, whatever the slice's length
-abbrev pub output : Report → ℕ → List ℕ → List ℕ
+abbrev pub output : Report → ℕ → Cells → Cells
 output r len result = cond (r .accepted) result (replicate len 0)
 
 -- check k at each of n places, and one whose place is always 0
@@ -83,45 +83,45 @@ each k n p = record { number = k; offset = 0; places = n; passes = p }
 abbrev pub single : ℕ → Bool → Check
 single k b = each k 1 (λ _. b)
 
--- check k of a slice, every cell of which is to be within a limit; its places count on from an offset
-abbrev pub within : ℕ → List ℕ → ℕ → Bool
+-- check k: every cell of the slice is at most the limit. Cell i of the slice is at place offset + i
+abbrev pub within : ℕ → Cells → ℕ → Bool
 within limit xs i = leb (cell xs i) limit
 
-abbrev pub bounded : ℕ → ℕ → ℕ → List ℕ → Check
+abbrev pub bounded : (k offset limit : ℕ) (s : Cells) → Check
 bounded k offset limit s = record { number = k; offset = offset; places = length s; passes = within limit s }
 
 -- 1. n is from 1 to 40
 abbrev pub size : ℕ → Check
-size n = single 1 (leb 1 n && leb n 40)
+size n = single 1 (fewSectors n)
 
 -- 2. every lent slice has its exact length: n × n for these matrices, n for these columns
-abbrev pub lengths : ℕ → List ℕ → List ℕ → Check
+abbrev pub lengths : (n : ℕ) (matrices columns : List ℕ) → Check
 lengths n matrices columns = single 2 (all (eqb (n * n)) matrices && all (eqb n) columns)
 
 -- 3. every amount is within 1,000,000,000, and every share within one
 abbrev pub amountLimit : ℕ
 amountLimit = 1_000_000_000
 
--- slices with one limit: places are counted on through them, from a place on
-abbrev pub counted : ℕ → ℕ → List (List ℕ) → List Check
-counted place limit [] = []
-counted place limit (s ∷ ss) = bounded 3 place limit s ∷ counted (place + length s) limit ss
+-- "its cells counted on through the slices in that order": the places of each check follow those of the check before it
+abbrev pub countedOn : (place : ℕ) → List Check → List Check
+countedOn place [] = []
+countedOn place (q ∷ qs) =
+    record { number = q .number; offset = place; places = q .places; passes = q .passes } ∷ countedOn (place + q .places) qs
 
 -- of a table the amounts of x, then of each column
 abbrev pub tableAmounts : Table → List Check
-tableAmounts t = counted 0 amountLimit (t .flows ∷ t .columns)
+tableAmounts t = countedOn 0 (map (bounded 3 0 amountLimit) (t .flows ∷ t .columns))
 
 -- for induced amounts the shares of a, m, v, then the amounts of F
-abbrev pub inducedAmounts : ℕ → (a m v F : List ℕ) → List Check
-inducedAmounts n a m v F =
-    bounded 3 0 one a ∷ bounded 3 (n * n) one m ∷ bounded 3 (n * n + n) one v ∷ bounded 3 (n * n + n + n) amountLimit F ∷ []
+abbrev pub inducedAmounts : (a m v F : Cells) → List Check
+inducedAmounts a m v F = countedOn 0 (bounded 3 0 one a ∷ bounded 3 0 one m ∷ bounded 3 0 one v ∷ bounded 3 0 amountLimit F ∷ [])
 
 module _ (t : Table) where
   -- 4. every column balances
   abbrev pub columnBalances : Check
   columnBalances =
       each 4 (t .sectors)
-      (λ j. eqb (sum (t .sectors) (transposed (flow t) j) + cell (valueAdded t) j) (cell (production t) j))
+      (λ j. eqb (columnSum (t .sectors) (flow t) j + cell (valueAdded t) j) (cell (production t) j))
 
   -- 5. every row balances
   abbrev pub rowBalances : Check
@@ -137,8 +137,11 @@ module _ (t : Table) where
   balanceChecks = columnBalances ∷ rowBalances ∷ importsCovered ∷ []
 
 -- 7. every column sum of domestic coefficients is at most 950,000
-abbrev pub columnSums : ℕ → (ℕ → ℕ → ℕ) → Check
-columnSums n c = each 7 n (λ j. leb (sum n (transposed c j)) 950_000)
+abbrev pub columnLimit : ℕ
+columnLimit = 950_000
+
+abbrev pub columnSums : ℕ → Sheet → Check
+columnSums n c = each 7 n (λ j. leb (columnSum n c j) columnLimit)
 
 -- 8. every demand for domestic goods is at most 2,000,000,000, and every direct rise at most 1,000,000,000
 abbrev pub demandLimit : ℕ
@@ -151,16 +154,16 @@ riseLimit = 1_000_000_000
 abbrev pub productionLimit : ℕ
 productionLimit = 1_600_000_000_000
 
-abbrev pub productionTotal : ℕ → List ℕ → Check
+abbrev pub productionTotal : ℕ → Cells → Check
 productionTotal n y = each 8 n (λ i. leb (sum (suc i) (cell y)) productionLimit)
 
 -- 9. the rounds settle within the budget; of the inverse sheet those of every column
-abbrev pub settles : ℕ → (ℕ → ℕ → ℕ) → List ℕ → ℕ → Bool
+abbrev pub settles : (n : ℕ) (c : Sheet) (s : Cells) (budget : ℕ) → Bool
 settles n c s budget = leb (settling n c s budget) budget
 
-abbrev pub columnsSettle : ℕ → List ℕ → ℕ → Check
+abbrev pub columnsSettle : (n : ℕ) (d : Cells) (budget : ℕ) → Check
 columnsSettle n d budget = each 9 n (λ j. settles n (at n d) (unit n j) budget)
 
 -- 10. a given production leaves every sector's demand at 0 or above
-abbrev pub demandLeft : ℕ → (ℕ → ℕ → ℕ) → List ℕ → Check
+abbrev pub demandLeft : ℕ → Sheet → Cells → Check
 demandLeft n c y = each 10 n (λ i. leb (intermediate n c (cell y) i) (cell y i))

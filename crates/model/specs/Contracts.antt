@@ -8,11 +8,12 @@ use Prim.Native.Nat.{ℕ}
 use lib.ListN.{length, replicate}
 use Rattle.model.specs.Numbers.{Cells, at, transposed}
 use Rattle.model.specs.Table.{Table}
+use Rattle.model.specs.Bytes.{Bytes}
 use Rattle.model.specs.Rounds.{settled, Settles, impliedDemand, inducedValueAdded, inducedImports, inverse, dispersion}
 use Rattle.model.specs.Checks.{Report, accepts, output, reportRead, roundsOf}
 use Rattle.model.specs.Calls.{coefficientsReport, inputCoefficients, valueAddedCoefficients, importCoefficients, domesticCoefficients, domesticDemands, productionReport, priceReport, impliedReport, inducedReport, inverseReport}
 use Rattle.model.specs.Promises.{Distinguishes, Accurate, AccuratePrices, Returns, NotAbove}
-use Rattle.model.specs.File.{Reading, called, answerOf, flowsRead, columnRead}
+use Rattle.model.specs.File.{Reading, called, answerOf, flowsRead, columnRead, columnWord}
 use Rattle.model.specs.Page.{pageReport, pageBytes}
 
 -- Sheets from a table t: a, v, m, d and f
@@ -83,28 +84,28 @@ slicesOf x f e m v p w =
     record { flows = x; finalDemand = f; exports = e; imports = m; valueAdded = v; production = p; rises = w }
 
 -- the reading of a file into slices and work words of these lengths
-abbrev pub readingInto : (file : Cells) (s₀ : Slices) (marks₀ : Cells) → Reading
+abbrev pub readingInto : (file : Bytes) (s₀ : Slices) (marks₀ : Cells) → Reading
 readingInto file s₀ marks₀ =
     let columns = length (s₀ .finalDemand) ∷ length (s₀ .exports) ∷ length (s₀ .imports) ∷ length (s₀ .valueAdded) ∷ length (s₀ .production) ∷ length (s₀ .rises) ∷ [] in
     called (length (s₀ .flows)) columns (length marks₀) file
 
--- what a reading leaves in the slices; the columns by their lines
+-- what a reading leaves in the slices; the columns by their words
 pub record Delivered (o : Reading) (s₀ s : Slices) : Type 0 where
   pub flows : s .flows ≡ flowsRead (length (s₀ .flows)) o
-  pub finalDemand : s .finalDemand ≡ columnRead 40 (length (s₀ .finalDemand)) o
-  pub exports : s .exports ≡ columnRead 41 (length (s₀ .exports)) o
-  pub imports : s .imports ≡ columnRead 42 (length (s₀ .imports)) o
-  pub valueAdded : s .valueAdded ≡ columnRead 43 (length (s₀ .valueAdded)) o
-  pub production : s .production ≡ columnRead 44 (length (s₀ .production)) o
-  pub rises : s .rises ≡ columnRead 45 (length (s₀ .rises)) o
+  pub finalDemand : s .finalDemand ≡ columnRead (columnWord 0) (length (s₀ .finalDemand)) o
+  pub exports : s .exports ≡ columnRead (columnWord 1) (length (s₀ .exports)) o
+  pub imports : s .imports ≡ columnRead (columnWord 2) (length (s₀ .imports)) o
+  pub valueAdded : s .valueAdded ≡ columnRead (columnWord 3) (length (s₀ .valueAdded)) o
+  pub production : s .production ≡ columnRead (columnWord 4) (length (s₀ .production)) o
+  pub rises : s .rises ≡ columnRead (columnWord 5) (length (s₀ .rises)) o
 
 -- A table file read into slices
-pub record FileRead (file : Cells) (s₀ : Slices) (marks₀ : Cells) (r : Report) (s : Slices) (marks : Cells) : Type 0 where
+pub record FileRead (file : Bytes) (s₀ : Slices) (marks₀ : Cells) (r : Report) (s : Slices) (marks : Cells) : Type 0 where
   pub answer : r ≡ reportRead (answerOf (readingInto file s₀ marks₀))
   pub delivered : Delivered (readingInto file s₀ marks₀) s₀ s
   pub cleared : marks ≡ replicate (length marks₀) 0
 
 -- The page of a table file, written into a buffer of 2,851 bytes, and how many bytes it has
-pub record PagePrinted (file out₀ : Cells) (r : Report) (out : Cells) : Type 0 where
+pub record PagePrinted (file out₀ : Bytes) (r : Report) (out : Bytes) : Type 0 where
   pub answer : r ≡ pageReport (length out₀) file
   pub outputs : out ≡ output r (length out₀) (pageBytes file)

@@ -3,7 +3,7 @@ use mathlib.Core.Bool.{cond}
 use mathlib.Core.List.{List, [], _∷_}
 use Prim.Native.Nat.{ℕ, _*_}
 use lib.ListN.{length}
-use Rattle.model.specs.Numbers.{at}
+use Rattle.model.specs.Numbers.{Cells, at}
 use Rattle.model.specs.Table.{Table, finalDemand}
 use Rattle.model.specs.Rounds.{settled, inducedValueAdded, inducedImports}
 use Rattle.model.specs.Checks.{Report, accepts, refuses, roundsOf}
@@ -22,13 +22,13 @@ firstRefusal (r ∷ rs) ks =
 
 module _ (t : Table) where
   -- production of the table's demand for domestic goods, and what it induces with the table's F
-  abbrev pub figuresProduction : List ℕ
+  abbrev pub figuresProduction : Cells
   figuresProduction = settled (t .sectors) (at (t .sectors) (domesticCoefficients t)) (domesticDemands t) pageBudget
 
-  abbrev pub figuresValue : List ℕ
+  abbrev pub figuresValue : Cells
   figuresValue = inducedValueAdded (t .sectors) (valueAddedCoefficients t) figuresProduction
 
-  abbrev pub figuresImports : List ℕ
+  abbrev pub figuresImports : Cells
   figuresImports = inducedImports (t .sectors) (at (t .sectors) (inputCoefficients t)) (importCoefficients t) (finalDemand t) figuresProduction
 
   -- sheets from the table, production, induced amounts: the first of the three that refuses, or the rounds

@@ -4,11 +4,14 @@ use mathlib.Core.List.{List, [], _∷_, _++_}
 use Prim.Native.Nat.{ℕ, zero, suc, _+_, _*_, _-_, _/_, _%_}
 use lib.Dec.{eqb, leb, ltb}
 use lib.ListN.{length, set, replicate}
-use Rattle.model.specs.Numbers.{all, cell}
+use Rattle.model.specs.Numbers.{Cells, all, cell}
+use Rattle.model.specs.Table.{sectorLimit, sheetLimit, fewSectors}
+use Rattle.model.specs.Bytes.{Bytes}
 use Rattle.model.specs.declared.TableRead.{TableRead}
 use Rattle.model.specs.declared.TableRead.the-variants.{Read, Refused}
 
--- A named cell. Words 0 to 39 are the rows of x, with their columns for positions; words 40 to 45 are F, E, M, V, X and the rises, with their sectors
+-- A named cell, by the bit that marks it: "a row's named cells are marked as bits of one 64-bit word". Words 0 to 39 are for the rows of x, and a
+-- position is a column; the words from 40 on are for F, E, M, V, X and the rises, and a position is a sector
 pub record Entry : Type 0 where
   pub word : ℕ
   pub position : ℕ
@@ -19,39 +22,54 @@ pub record Entry : Type 0 where
 abbrev pub recordLengths : List ℕ
 recordLengths = 0 ∷ 2 ∷ 7 ∷ 6 ∷ 6 ∷ 6 ∷ 6 ∷ 6 ∷ 1 ∷ 6 ∷ []
 
--- "Kinds 3 to 7: F, E, M, V, X in that order. Kind 9": the word of a column by its kind
-abbrev pub columnWords : List ℕ
-columnWords = 0 ∷ 0 ∷ 0 ∷ 40 ∷ 41 ∷ 42 ∷ 43 ∷ 44 ∷ 0 ∷ 45 ∷ []
-
--- and the kind of a column by its word, from word 40 on
+-- "Kinds 3 to 7: F, E, M, V, X in that order. Kind 9", the rises: the kinds of the columns
 abbrev pub columnKinds : List ℕ
 columnKinds = 3 ∷ 4 ∷ 5 ∷ 6 ∷ 7 ∷ 9 ∷ []
 
+-- the word of column c of these, and the words of all: 46
+abbrev pub columnWord : ℕ → ℕ
+columnWord c = sectorLimit + c
+
+abbrev pub wordLimit : ℕ
+wordLimit = columnWord (length columnKinds)
+
+-- the cells of all of them, 40 for each: 1,840
+abbrev pub cellLimit : ℕ
+cellLimit = wordLimit * sectorLimit
+
+-- the word of a column by its kind
+abbrev pub columnWords : List ℕ
+columnWords = 0 ∷ 0 ∷ 0 ∷ columnWord 0 ∷ columnWord 1 ∷ columnWord 2 ∷ columnWord 3 ∷ columnWord 4 ∷ 0 ∷ columnWord 5 ∷ []
+
 -- "amounts are 4 bytes, highest first"
-abbrev pub amountBytes : ℕ → List ℕ
+abbrev pub amountBytes : ℕ → Bytes
 amountBytes a = (a / 16777216) ∷ (a / 65536 % 256) ∷ (a / 256 % 256) ∷ (a % 256) ∷ []
 
 -- a record: "Kind 2: row, column, amount of x", the other kinds sector and amount; "sector bytes run from 1"
-unfoldable pub encode : Entry → List ℕ
+unfoldable pub encode : Entry → Bytes
 encode e =
-    cond (ltb (e .word) 40) (2 ∷ (e .word + 1) ∷ (e .position + 1) ∷ amountBytes (e .amount))
-    (cell columnKinds (e .word - 40) ∷ (e .position + 1) ∷ amountBytes (e .amount))
+    cond (ltb (e .word) sectorLimit) (2 ∷ (e .word + 1) ∷ (e .position + 1) ∷ amountBytes (e .amount))
+    (cell columnKinds (e .word - sectorLimit) ∷ (e .position + 1) ∷ amountBytes (e .amount))
 
 -- records one after the other
-abbrev pub encodeAll : List Entry → List ℕ
+abbrev pub encodeAll : List Entry → Bytes
 encodeAll [] = []
 encodeAll (e ∷ es) = encode e ++ encodeAll es
 
 -- kind 1, the named cells, kind 8
-unfoldable pub fileOf : ℕ → List Entry → List ℕ
+unfoldable pub fileOf : ℕ → List Entry → Bytes
 fileOf n es = 1 ∷ n ∷ (encodeAll es ++ (8 ∷ []))
+
+-- "No accepted file exceeds 12,643 bytes": kind 1, a record of 7 bytes for each cell of x and of 6 for each cell of a column, and kind 8
+abbrev pub fileLimit : ℕ
+fileLimit = 2 + (sheetLimit * 7 + length columnKinds * sectorLimit * 6) + 1
 
 -- ---- what stands at an offset of a file s
 -- the amount whose 4 bytes start at k
-unfoldable pub amountFrom : List ℕ → ℕ → ℕ
+unfoldable pub amountFrom : Bytes → ℕ → ℕ
 amountFrom s k = ((cell s k * 256 + cell s (k + 1)) * 256 + cell s (k + 2)) * 256 + cell s (k + 3)
 
-module _ (s : List ℕ) (at : ℕ) where
+module _ (s : Bytes) (at : ℕ) where
   -- "one byte of kind"
   abbrev pub kindAt : ℕ
   kindAt = cell s at
@@ -101,7 +119,7 @@ refuseIf no? number place onward = cond no? (Reading.refused number place) onwar
 
 -- The records after the first, from an offset on, with the cells named so far. A record has at least one byte, so the file's length is steps
 -- enough (`fuel`)
-unfoldable pub walk : (fuel : ℕ) (s : List ℕ) (n : ℕ) (es : List Entry) (at : ℕ) → Reading
+unfoldable pub walk : (fuel : ℕ) (s : Bytes) (n : ℕ) (es : List Entry) (at : ℕ) → Reading
 unfolding wholeAt insideAt entryAt
 walk zero s n es at = Reading.refused 15 (length s)
 walk (suc fuel) s n es at =
@@ -115,33 +133,33 @@ walk (suc fuel) s n es at =
     (refuseIf (namedBefore es (entryAt s at)) 14 at onward)))))
 
 -- The whole file: 12 asks that the first record is kind 1 with n from 1 to 40. The empty file gives 15 at 0
-unfoldable pub reading : List ℕ → Reading
+unfoldable pub reading : Bytes → Reading
 unfolding wholeAt walk
 reading s =
     let n = cell s 1 in
     let onward = walk (length s) s n [] 2 in
     refuseIf (eqb (length s) 0) 15 0
     (require (wholeAt s 0) 11 0
-    (require (eqb (kindAt s 0) 1 && (leb 1 n && leb n 40)) 12 0 onward))
+    (require (eqb (kindAt s 0) 1 && fewSectors n) 12 0 onward))
 
 -- ---- the cells that a reading names: "a cell not named is 0"
 -- x: "row i of x starts at cell i × n"
-abbrev pub flowsOf : ℕ → List Entry → List ℕ
-flowsOf n [] = replicate 1600 0
-flowsOf n (e ∷ es) = cond (ltb (e .word) 40) (set (flowsOf n es) (e .word * n + e .position) (e .amount)) (flowsOf n es)
+abbrev pub flowsOf : ℕ → List Entry → Cells
+flowsOf n [] = replicate sheetLimit 0
+flowsOf n (e ∷ es) = cond (ltb (e .word) sectorLimit) (set (flowsOf n es) (e .word * n + e .position) (e .amount)) (flowsOf n es)
 
 -- a column by its word
-abbrev pub columnOf : ℕ → List Entry → List ℕ
-columnOf word [] = replicate 40 0
+abbrev pub columnOf : (word : ℕ) → List Entry → Cells
+columnOf word [] = replicate sectorLimit 0
 columnOf word (e ∷ es) = cond (eqb (e .word) word) (set (columnOf word es) (e .position) (e .amount)) (columnOf word es)
 
 -- ---- the reader's call
 -- 2. "1,600 cells for x, 40 for each of six columns, 46 work words": by the lengths of the lent slices
-abbrev pub fits : ℕ → List ℕ → ℕ → Bool
-fits x columns marks = eqb 1600 x && all (eqb 40) columns && eqb 46 marks
+abbrev pub fits : (x : ℕ) (columns : List ℕ) (marks : ℕ) → Bool
+fits x columns marks = eqb sheetLimit x && all (eqb sectorLimit) columns && eqb wordLimit marks
 
 -- "The reader asks 2 first", then walks
-unfoldable pub called : ℕ → List ℕ → ℕ → List ℕ → Reading
+unfoldable pub called : (x : ℕ) (columns : List ℕ) (marks : ℕ) → Bytes → Reading
 unfolding reading
 called x columns marks s = let later = reading s in cond (fits x columns marks) later (Reading.refused 2 0)
 
@@ -151,11 +169,11 @@ answerOf (Reading.refused q p) = Refused q p
 answerOf (Reading.table n es) = Read n (length es)
 
 -- what the call leaves in the slice that is lent for x: after a refusal 0, in the slice's own length
-abbrev pub flowsRead : ℕ → Reading → List ℕ
+abbrev pub flowsRead : (len : ℕ) → Reading → Cells
 flowsRead len (Reading.refused q p) = replicate len 0
 flowsRead len (Reading.table n es) = flowsOf n es
 
 -- and in the slice that is lent for a column
-abbrev pub columnRead : ℕ → ℕ → Reading → List ℕ
+abbrev pub columnRead : (word len : ℕ) → Reading → Cells
 columnRead word len (Reading.refused q p) = replicate len 0
 columnRead word len (Reading.table n es) = columnOf word es

@@ -1,5 +1,6 @@
 -- The definitions of document 01, in its order.
 pub mod Numbers
+pub mod Bytes
 pub mod Table
 pub mod Rounds
 pub mod Checks
@@ -9,5 +10,4 @@ pub mod File
 pub mod Text
 pub mod Figures
 pub mod Page
-pub mod Bytes
 pub mod Contracts

@@ -1,7 +1,7 @@
 -- Sums, lists made by a rule, and matrices. Numbers are whole, 0 or above, without an upper limit; a slice is the list of its cells.
 use mathlib.Core.Bool.{Bool, true, false, _&&_}
 use mathlib.Core.List.{List, [], _∷_}
-use Prim.Native.Nat.{ℕ, zero, suc, _+_, _*_, _/_, _%_, max}
+use Prim.Native.Nat.{ℕ, zero, suc, _+_, _*_, _/_, _%_, _^_, max}
 use lib.Dec.{eqb}
 use lib.ListN.{getD}
 
@@ -32,37 +32,48 @@ first zero p = 0
 first (suc n) p = elim (p 0) [ true ↦ suc (first n (λ i. p (suc i))) | false ↦ 0 ]
 
 -- the test passes at every number of a list
-abbrev pub all : (ℕ → Bool) → List ℕ → Bool
+abbrev pub all : (ℕ → Bool) → Cells → Bool
 all p [] = true
 all p (x ∷ xs) = p x && all p xs
 
 -- f 0, .., f (n - 1)
-abbrev pub tabulate : ℕ → (ℕ → ℕ) → List ℕ
+abbrev pub tabulate : ℕ → (ℕ → ℕ) → Cells
 tabulate zero f = []
 tabulate (suc n) f = f 0 ∷ tabulate n (λ i. f (suc i))
 
 -- the number at place i of a list; 0 past its end
-abbrev pub cell : List ℕ → ℕ → ℕ
+abbrev pub cell : Cells → ℕ → ℕ
 cell xs i = getD xs i 0
 
 -- two columns are the same in every sector
-abbrev pub same : ℕ → List ℕ → List ℕ → Bool
+abbrev pub same : ℕ → Cells → Cells → Bool
 same zero a b = true
 same (suc n) a b = same n a b && eqb (cell a n) (cell b n)
 
 -- n rows of n cells, row by row, as a function of row and column
-abbrev pub at : ℕ → List ℕ → ℕ → ℕ → ℕ
+abbrev pub at : ℕ → Cells → Sheet
 at n d i j = cell d (i * n + j)
 
 -- and such a function as n rows of n cells
-abbrev pub matrix : ℕ → (ℕ → ℕ → ℕ) → List ℕ
+abbrev pub matrix : ℕ → Sheet → Cells
 matrix n c = tabulate (n * n) (λ k. c (k / n) (k % n))
 
 -- rows and columns exchanged
-abbrev pub transposed : (ℕ → ℕ → ℕ) → ℕ → ℕ → ℕ
+abbrev pub transposed : Sheet → Sheet
 transposed c i j = c j i
 
+-- the sum of column j of n, and of all cells
+abbrev pub columnSum : ℕ → Sheet → ℕ → ℕ
+columnSum n c j = sum n (transposed c j)
+
+abbrev pub allCells : ℕ → Sheet → ℕ
+allCells n c = sum n (columnSum n c)
+
 -- the direction of a matrix: down its columns, or along its rows
-abbrev pub oriented : Bool → (ℕ → ℕ → ℕ) → ℕ → ℕ → ℕ
+abbrev pub oriented : Bool → Sheet → Sheet
 oriented true c = transposed c
 oriented false c = c
+
+-- the bit of a word at a position: 0 or 1
+abbrev pub bit : ℕ → ℕ → ℕ
+bit word position = word / 2 ^ position % 2

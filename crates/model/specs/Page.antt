@@ -4,47 +4,47 @@ use mathlib.Core.List.{List, [], _∷_, _++_, map}
 use Prim.Native.Nat.{ℕ, zero, suc, _+_, _*_, _-_}
 use lib.Dec.{eqb}
 use lib.ListN.{length, take, replicate}
-use Rattle.model.specs.Numbers.{cell}
-use Rattle.model.specs.Table.{Table, tableOf}
+use Rattle.model.specs.Numbers.{Cells, cell}
+use Rattle.model.specs.Table.{Table, tableOf, sectorLimit}
 use Rattle.model.specs.Checks.{Report, roundsOf, verdict, single}
 use Rattle.model.specs.Calls.{domesticDemands}
 use Rattle.model.specs.Figures.{figuresProduction, figuresValue, figuresImports, figuresReport}
-use Rattle.model.specs.File.{Entry, Reading, reading, flowsOf, columnOf}
-use Rattle.model.specs.Bytes.{bytes}
+use Rattle.model.specs.File.{Entry, Reading, reading, flowsOf, columnOf, columnWord}
+use Rattle.model.specs.Bytes.{Bytes, bytes}
 use Rattle.model.specs.Text.{decimal, line}
 
-abbrev pub headings : List (List ℕ)
+abbrev pub headings : List Bytes
 headings = bytes "sector" ∷ bytes "demand" ∷ bytes "production" ∷ bytes "value" ∷ bytes "imports" ∷ []
 
 -- "A refusal prints only one line: `refused`, number, place"
-unfoldable pub refusalLine : ℕ → ℕ → List ℕ
+unfoldable pub refusalLine : (number place : ℕ) → Bytes
 refusalLine number place = line (bytes "refused" ∷ decimal number ∷ decimal place ∷ [])
 
 -- what a call refuses, or the page that goes on from it
-abbrev pub orRefusal : Report → List ℕ → List ℕ
+abbrev pub orRefusal : Report → Bytes → Bytes
 orRefusal r page = cond (r .accepted) page (refusalLine (r .number) (r .place))
 
 -- the line of sector i, written from 1
-abbrev pub sectorLine : (demand production value imports : List ℕ) → ℕ → List ℕ
+abbrev pub sectorLine : (demand production value imports : Cells) → ℕ → Bytes
 sectorLine demand production value imports i =
     line (decimal (i + 1) ∷ decimal (cell demand i) ∷ decimal (cell production i) ∷ decimal (cell value i) ∷ decimal (cell imports i) ∷ [])
 
 -- the lines of the first n sectors
-abbrev pub linesTo : ℕ → (ℕ → List ℕ) → List ℕ
+abbrev pub linesTo : ℕ → (ℕ → Bytes) → Bytes
 linesTo zero w = []
 linesTo (suc n) w = linesTo n w ++ w n
 
 -- `rounds`, and how many
-abbrev pub roundsLine : ℕ → List ℕ
+abbrev pub roundsLine : ℕ → Bytes
 roundsLine rounds = line (bytes "rounds" ∷ decimal rounds ∷ [])
 
 -- headings, a line a sector, and the rounds
-unfoldable pub sheet : ℕ → (demand production value imports : List ℕ) → ℕ → List ℕ
+unfoldable pub sheet : ℕ → (demand production value imports : Cells) → ℕ → Bytes
 sheet n demand production value imports rounds =
     line headings ++ (linesTo n (sectorLine demand production value imports) ++ roundsLine rounds)
 
 -- ---- the page of a table: the first refusal of its calls, or the sheet of its figures
-unfoldable pub tablePage : Table → List ℕ
+unfoldable pub tablePage : Table → Bytes
 unfolding refusalLine sheet figuresReport
 tablePage t =
     let r = figuresReport t in
@@ -53,34 +53,34 @@ tablePage t =
 
 -- ---- the page of a file
 module _ (n : ℕ) (es : List Entry) where
-  -- the first n cells of a column
-  abbrev cellsRead : ℕ → List ℕ
-  cellsRead l = take n (columnOf l es)
+  -- the first n cells of column c
+  abbrev cellsRead : ℕ → Cells
+  cellsRead c = take n (columnOf (columnWord c) es)
 
   -- the table that a reading names
   abbrev pub tableRead : Table
-  tableRead = tableOf n (take (n * n) (flowsOf n es)) (map cellsRead (40 ∷ 41 ∷ 42 ∷ 43 ∷ 44 ∷ []))
+  tableRead = tableOf n (take (n * n) (flowsOf n es)) (map cellsRead (0 ∷ 1 ∷ 2 ∷ 3 ∷ 4 ∷ []))
 
 -- the page of a reading: a file's own refusals too are one line
-abbrev pub readingPage : Reading → List ℕ
+abbrev pub readingPage : Reading → Bytes
 readingPage (Reading.refused number place) = refusalLine number place
 readingPage (Reading.table n es) = tablePage (tableRead n es)
 
 -- the page of a file, from its bytes to the printed bytes
-unfoldable pub page : List ℕ → List ℕ
+unfoldable pub page : Bytes → Bytes
 page s = readingPage (reading s)
 
 -- ---- the call that writes it
--- bytes that hold every page: headings, 40 lines of five amounts with 13 digits at most, and `rounds 1400`
+-- bytes that hold every page, 2,851: headings, 40 lines of five amounts with 13 digits at most, and `rounds 1400`
 abbrev pub pageLimit : ℕ
-pageLimit = 39 + 40 * 70 + 12
+pageLimit = 39 + sectorLimit * 70 + 12
 
 -- what it leaves in a buffer of that length: the page, and 0 in every byte after it
-unfoldable pub pageBytes : List ℕ → List ℕ
+unfoldable pub pageBytes : Bytes → Bytes
 unfolding page
 pageBytes s = page s ++ replicate (pageLimit - length (page s)) 0
 
 -- it asks 2 alone, the buffer's exact length; its count is how many bytes the page has
-unfoldable pub pageReport : (len : ℕ) (s : List ℕ) → Report
+unfoldable pub pageReport : (len : ℕ) (s : Bytes) → Report
 unfolding page
 pageReport len s = verdict (single 2 (eqb pageLimit len) ∷ []) (length (page s) ∷ [])

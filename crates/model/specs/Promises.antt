@@ -1,51 +1,52 @@
 -- What demands 2 and 3 promise of an accepted result. Proved in `theory`, and carried by the calls' own contracts.
 use mathlib.Core.Path.{_≡_}
 use mathlib.Core.Logic.{_↔_}
-use mathlib.Core.List.{List}
 use Prim.Native.Nat.{ℕ, _*_, _≤_, _<_}
 use lib.ListN.{length}
-use Rattle.model.specs.Numbers.{sum, cell, at, transposed}
+use Rattle.model.specs.Numbers.{Cells, Sheet, sum, cell, at, transposed, columnSum}
+use Rattle.model.specs.Table.{sectorLimit}
+use Rattle.model.specs.Checks.{columnLimit}
 use Rattle.model.specs.Rounds.{Settles, ExactBalance, shortfall}
 
 -- question 7 is answered yes
-abbrev pub LowColumns : ℕ → (ℕ → ℕ → ℕ) → Type 0
-LowColumns n c = (j : ℕ) → j < n → sum n (transposed c j) ≤ 950_000
+abbrev pub LowColumns : ℕ → Sheet → Type 0
+LowColumns n c = (j : ℕ) → j < n → columnSum n c j ≤ columnLimit
 
 -- A domestic sheet is accepted: n from 1 to 40, n × n cells, question 7 answered yes
-pub record AcceptedMatrix (n : ℕ) (d : List ℕ) : Type 0 where
+pub record AcceptedMatrix (n : ℕ) (d : Cells) : Type 0 where
   pub some : 1 ≤ n
-  pub few : n ≤ 40
+  pub few : n ≤ sectorLimit
   pub cells : length d ≡ n * n
   pub low : LowColumns n (at n d)
 
 -- equal in every sector
-abbrev pub Equal : ℕ → List ℕ → List ℕ → Type 0
+abbrev pub Equal : ℕ → Cells → Cells → Type 0
 Equal n a b = (i : ℕ) → i < n → cell a i ≡ cell b i
 
 -- Demand 3, first half, of the production y of a demand f: against every demand g that settles, with production z
-abbrev pub Distinguishes : ℕ → List ℕ → List ℕ → List ℕ → Type 0
-Distinguishes n d f y = (g z : List ℕ) (k : ℕ) → Settles n (at n d) g k z → Equal n y z ↔ Equal n f g
+abbrev pub Distinguishes : (n : ℕ) (d f y : Cells) → Type 0
+Distinguishes n d f y = (g z : Cells) (k : ℕ) → Settles n (at n d) g k z → Equal n y z ↔ Equal n f g
 
 -- Demand 3, second half: against every exact balance y is nowhere too high, and all sectors together lack less than 20 × n
-pub record NearBalance (n : ℕ) (y : List ℕ) (q : ℕ) (b : ℕ → ℕ) : Type 0 where
+pub record NearBalance (n : ℕ) (y : Cells) (q : ℕ) (b : ℕ → ℕ) : Type 0 where
   pub nowhereTooHigh : (i : ℕ) → i < n → q * cell y i ≤ b i
   pub together : sum n (shortfall q b y) < 20 * q * n
 
-abbrev pub Accurate : ℕ → List ℕ → List ℕ → List ℕ → Type 0
+abbrev pub Accurate : (n : ℕ) (d f y : Cells) → Type 0
 Accurate n d f y = (q : ℕ) (b : ℕ → ℕ) → ExactBalance n (at n d) f q b → NearBalance n y q b
 
 -- Prices: nowhere above an exact balance of the column direction, and in each sector less than 20 millionths below it
-pub record NearPrices (n : ℕ) (r : List ℕ) (q : ℕ) (b : ℕ → ℕ) : Type 0 where
+pub record NearPrices (n : ℕ) (r : Cells) (q : ℕ) (b : ℕ → ℕ) : Type 0 where
   pub nowhereAbove : (i : ℕ) → i < n → q * cell r i ≤ b i
   pub each : (i : ℕ) → i < n → shortfall q b r i < 20 * q
 
-abbrev pub AccuratePrices : ℕ → List ℕ → List ℕ → List ℕ → Type 0
+abbrev pub AccuratePrices : (n : ℕ) (d w r : Cells) → Type 0
 AccuratePrices n d w r = (q : ℕ) (b : ℕ → ℕ) → ExactBalance n (transposed (at n d)) w q b → NearPrices n r q b
 
 -- Demand 2, of the demand f behind a production y: going forward and then back returns the demand, of any demand g that settles at y
-abbrev pub Returns : ℕ → List ℕ → List ℕ → List ℕ → Type 0
-Returns n d y f = (g : List ℕ) (k : ℕ) → length g ≡ n → Settles n (at n d) g k y → f ≡ g
+abbrev pub Returns : (n : ℕ) (d y f : Cells) → Type 0
+Returns n d y f = (g : Cells) (k : ℕ) → length g ≡ n → Settles n (at n d) g k y → f ≡ g
 
 -- Going back and then forward need not return; what holds is that the production z settled from f is nowhere above y
-abbrev pub NotAbove : ℕ → List ℕ → List ℕ → List ℕ → Type 0
-NotAbove n d y f = (z : List ℕ) (k : ℕ) → Settles n (at n d) f k z → (i : ℕ) → i < n → cell z i ≤ cell y i
+abbrev pub NotAbove : (n : ℕ) (d y f : Cells) → Type 0
+NotAbove n d y f = (z : Cells) (k : ℕ) → Settles n (at n d) f k z → (i : ℕ) → i < n → cell z i ≤ cell y i

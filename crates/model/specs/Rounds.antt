@@ -4,21 +4,21 @@ use mathlib.Core.Path.{_≡_}
 use mathlib.Core.Bool.{Bool, true, false, not, _&&_, cond}
 use mathlib.Core.List.{List, []}
 use Prim.Native.Nat.{ℕ, zero, suc, _+_, _*_, _-_, _/_, _≤_, _<_}
-use lib.Dec.{eqb, leb, ltb}
+use lib.Dec.{eqb, ltb}
 use lib.ListN.{length, take, drop}
-use Rattle.model.specs.Numbers.{Cells, Sheet, one, sum, largest, first, tabulate, cell, same, at, matrix, transposed}
-use Rattle.model.specs.Table.{portion}
+use Rattle.model.specs.Numbers.{Cells, Sheet, one, sum, largest, first, tabulate, cell, same, at, matrix, columnSum, allCells}
+use Rattle.model.specs.Table.{portion, fewSectors}
 
 -- c(i,j) × amount(j)
-abbrev pub product : (ℕ → ℕ → ℕ) → (ℕ → ℕ) → ℕ → ℕ → ℕ
+abbrev pub product : Sheet → (ℕ → ℕ) → ℕ → ℕ → ℕ
 product c a i j = c i j * a j
 
 -- the sum over j of c(i,j) × amount(j)
-abbrev pub weighted : ℕ → (ℕ → ℕ → ℕ) → (ℕ → ℕ) → ℕ → ℕ
+abbrev pub weighted : ℕ → Sheet → (ℕ → ℕ) → ℕ → ℕ
 weighted n c a i = sum n (product c a i)
 
 -- What industry takes, or what is passed on: the whole sum divided once by one
-unfoldable pub intermediate : ℕ → (ℕ → ℕ → ℕ) → (ℕ → ℕ) → ℕ → ℕ
+unfoldable pub intermediate : ℕ → Sheet → (ℕ → ℕ) → ℕ → ℕ
 intermediate n c a i = weighted n c a i / one
 
 module _ (n : ℕ) (c : Sheet) (start : Cells) where
@@ -45,48 +45,48 @@ module _ (n : ℕ) (c : Sheet) (start : Cells) where
   settled budget = rounds (settling budget)
 
 -- A start settles, without a budget: round k is the first that changes no sector, and y is the amounts after it
-pub record Settles (n : ℕ) (c : ℕ → ℕ → ℕ) (s : List ℕ) (k : ℕ) (y : List ℕ) : Type 0 where
+pub record Settles (n : ℕ) (c : Sheet) (s : Cells) (k : ℕ) (y : Cells) : Type 0 where
   pub unchanged : changes n c s k ≡ false
   pub earlier : (j : ℕ) → j < k → changes n c s j ≡ true
   pub amounts : y ≡ rounds n c s k
 
 -- An exact balance over a start: it stands for the amounts b(i) / q
-pub record ExactBalance (n : ℕ) (c : ℕ → ℕ → ℕ) (s : List ℕ) (q : ℕ) (b : ℕ → ℕ) : Type 0 where
+pub record ExactBalance (n : ℕ) (c : Sheet) (s : Cells) (q : ℕ) (b : ℕ → ℕ) : Type 0 where
   pub divisor : 1 ≤ q
   pub balance : (i : ℕ) → i < n → one * b i ≡ one * q * cell s i + weighted n c b i
 
 -- what sector i of the amounts y lacks against it
-abbrev pub shortfall : ℕ → (ℕ → ℕ) → List ℕ → ℕ → ℕ
+abbrev pub shortfall : ℕ → (ℕ → ℕ) → Cells → ℕ → ℕ
 shortfall q b y i = b i - q * cell y i
 
 -- Backwards: the demand behind a production
-unfoldable pub impliedDemand : ℕ → (ℕ → ℕ → ℕ) → List ℕ → List ℕ
+unfoldable pub impliedDemand : ℕ → Sheet → Cells → Cells
 impliedDemand n c y = tabulate n (λ i. cell y i - intermediate n c (cell y) i)
 
 -- Induced value added, and induced imports, at a production y
-unfoldable pub inducedValueAdded : ℕ → List ℕ → List ℕ → List ℕ
+unfoldable pub inducedValueAdded : (n : ℕ) (v y : Cells) → Cells
 inducedValueAdded n v y = tabulate n (λ j. portion (cell v j) (cell y j))
 
-unfoldable pub inducedImports : ℕ → (ℕ → ℕ → ℕ) → List ℕ → List ℕ → List ℕ → List ℕ
+unfoldable pub inducedImports : (n : ℕ) (a : Sheet) (m F y : Cells) → Cells
 inducedImports n a m F y = tabulate n (λ i. portion (cell m i) (intermediate n a (cell y) i + cell F i))
 
 -- a demand of one in sector j and 0 elsewhere
-unfoldable pub unit : ℕ → ℕ → List ℕ
+unfoldable pub unit : ℕ → ℕ → Cells
 unit n j = tabulate n (λ i. cond (eqb i j) one 0)
 
 -- The inverse sheet (Leontief inverse): column j is the production settled from one in sector j. The budget holds for each column
-unfoldable pub inverse : ℕ → List ℕ → ℕ → List ℕ
+unfoldable pub inverse : (n : ℕ) (d : Cells) (budget : ℕ) → Cells
 inverse n d budget = matrix n (λ i j. cell (settled n (at n d) (unit n j) budget) i)
 
 -- its count of rounds: the largest of the columns'
-unfoldable pub inverseRounds : ℕ → List ℕ → ℕ → ℕ
+unfoldable pub inverseRounds : (n : ℕ) (d : Cells) (budget : ℕ) → ℕ
 inverseRounds n d budget = largest n (λ j. settling n (at n d) (unit n j) budget)
 
--- Influence ratios over an inverse z (power of dispersion): each column sum against all cells. The sensitivity ratios (sensitivity of
--- dispersion), each row sum against all cells, are the same over `transposed z`
-unfoldable pub dispersion : ℕ → (ℕ → ℕ → ℕ) → List ℕ
-dispersion n z = tabulate n (λ j. sum n (transposed z j) * n * one / sum n (λ k. sum n (transposed z k)))
+-- Influence ratios over an inverse z (power of dispersion): "column sum × n × one / sum of all cells". The sensitivity ratios (sensitivity of
+-- dispersion), by row sums, are those of the sheet with its rows and columns exchanged
+unfoldable pub dispersion : ℕ → Sheet → Cells
+dispersion n z = tabulate n (λ j. columnSum n z j * n * one / allCells n z)
 
 -- A sector's row of a sheet: n cells from sector × n; empty where question 1 or 2 fails or the sector is not below n
-unfoldable pub rowSlice : ℕ → List ℕ → ℕ → List ℕ
-rowSlice n d i = cond (leb 1 n && leb n 40 && eqb (n * n) (length d) && ltb i n) (take n (drop (i * n) d)) []
+unfoldable pub rowSlice : (n : ℕ) (d : Cells) (sector : ℕ) → Cells
+rowSlice n d i = cond (fewSectors n && eqb (n * n) (length d) && ltb i n) (take n (drop (i * n) d)) []

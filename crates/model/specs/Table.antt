@@ -1,37 +1,50 @@
 -- Document 01, "The table and its units" and "The sheets, all rounded down". A quotient is rounded down, and is 0 where the divisor is 0.
+use mathlib.Core.Bool.{Bool, _&&_}
 use mathlib.Core.List.{List, []}
 use Prim.Native.Nat.{ℕ, _+_, _*_, _-_, _/_}
+use lib.Dec.{leb}
 use lib.ListN.{getD}
-use Rattle.model.specs.Numbers.{one, sum, cell, at}
+use Rattle.model.specs.Numbers.{Cells, Sheet, one, sum, cell, at}
+
+-- "n sectors, 1 to 40"
+abbrev pub sectorLimit : ℕ
+sectorLimit = 40
+
+abbrev pub fewSectors : ℕ → Bool
+fewSectors n = leb 1 n && leb n sectorLimit
+
+-- the cells of the largest sheet: 1,600
+abbrev pub sheetLimit : ℕ
+sheetLimit = sectorLimit * sectorLimit
 
 -- A table: n sectors, x row by row, and its columns of n cells, in the paper's order
 pub record Table : Type 0 where
   pub sectors : ℕ
-  pub flows : List ℕ
-  pub columns : List (List ℕ)
+  pub flows : Cells
+  pub columns : List Cells
 
-abbrev pub tableOf : ℕ → List ℕ → List (List ℕ) → Table
+abbrev pub tableOf : ℕ → Cells → List Cells → Table
 tableOf n x columns = record { sectors = n; flows = x; columns = columns }
 
 module _ (t : Table) where
   -- column c, and no cell where the table has no such column
-  abbrev pub column : ℕ → List ℕ
+  abbrev pub column : ℕ → Cells
   column c = getD (t .columns) c []
 
   -- by their names: F, E, M, V and X
-  abbrev pub finalDemand : List ℕ
+  abbrev pub finalDemand : Cells
   finalDemand = column 0
 
-  abbrev pub exports : List ℕ
+  abbrev pub exports : Cells
   exports = column 1
 
-  abbrev pub imports : List ℕ
+  abbrev pub imports : Cells
   imports = column 2
 
-  abbrev pub valueAdded : List ℕ
+  abbrev pub valueAdded : Cells
   valueAdded = column 3
 
-  abbrev pub production : List ℕ
+  abbrev pub production : Cells
   production = column 4
 
 -- part of whole, in millionths
@@ -43,19 +56,19 @@ abbrev pub portion : ℕ → ℕ → ℕ
 portion m amount = m * amount / one
 
 -- Domestic need of sector i: what all sectors buy of it, and final demand; exports are not in it
-unfoldable pub absorption : ℕ → List ℕ → List ℕ → ℕ → ℕ
+unfoldable pub absorption : (n : ℕ) (x F : Cells) → ℕ → ℕ
 absorption n x F i = sum n (at n x i) + cell F i
 
 module _ (t : Table) where
   -- x(i,j)
-  abbrev pub flow : ℕ → ℕ → ℕ
+  abbrev pub flow : Sheet
   flow = at (t .sectors) (t .flows)
 
   abbrev pub need : ℕ → ℕ
   need = absorption (t .sectors) (t .flows) (finalDemand t)
 
   -- Input coefficient a(i,j)
-  unfoldable pub inputCoefficient : ℕ → ℕ → ℕ
+  unfoldable pub inputCoefficient : Sheet
   inputCoefficient i j = share (flow i j) (cell (production t) j)
 
   -- Value share v(j)
@@ -67,7 +80,7 @@ module _ (t : Table) where
   importCoefficient i = share (cell (imports t) i) (need i)
 
   -- Domestic coefficient d(i,j)
-  unfoldable pub domesticCoefficient : ℕ → ℕ → ℕ
+  unfoldable pub domesticCoefficient : Sheet
   domesticCoefficient i j = portion (one - importCoefficient i) (inputCoefficient i j)
 
   -- Demand for domestic goods f(i): exports come in whole

@@ -7,13 +7,14 @@ use native.Mathlib.Omega.{arith}
 use lib.Dec.{lit≤, lit<}
 use lib.ListN.{length, take, drop, replicate}
 use lib.Seq.{sets, take-at, take-take}
-use Rattle.model.specs.Table.{Table}
+use Rattle.model.specs.Table.{Table, sectorLimit, sheetLimit}
 use Rattle.model.specs.Checks.{Report, accepts, refuses}
-use Rattle.model.specs.File.{Entry, Reading, reading, flowsOf, columnOf, answerOf}
+use Rattle.model.specs.File.{Entry, Reading, reading, flowsOf, columnOf, answerOf, wordLimit}
 use Rattle.model.specs.Contracts.{PagePrinted}
 use Rattle.model.specs.Figures.{figuresReport}
 use Rattle.model.specs.Page.{refusalLine, sheet, tableRead, tablePage, readingPage, page, pageLimit, pageReport}
 use Rattle.model.specs.declared.TableRead.{TableRead}
+use Rattle.theory_files.specs.Files.{inputLimit}
 use Rattle.theory_pages.proofs.Pages.{written, unwritten}
 use Rattle.theory_files.proofs.Readings.{Answered, reading-answered}
 use Rattle.file_walk.specs.Steps.{Held}
@@ -57,7 +58,7 @@ module _ (t : Table) {s : Report} {f y b i : List ℕ} (w : Figures t s f y b i)
       rw (take-at f fs n lf, take-at y ys n ly, take-at b bs n lb, take-at i is n li) (sheet-on g)
 
 -- the first n of 40 cells
-pub first-part : (n : ℕ) (l : List ℕ) → n ≤ 40 → length l ≡ 40 → length (take (n - 0) l) ≡ n
+pub first-part : (n : ℕ) (l : List ℕ) → n ≤ sectorLimit → length l ≡ sectorLimit → length (take (n - 0) l) ≡ n
 first-part n l few long = part n l (omega arith)
 
 pub sheet-part : (n : ℕ) (f y b i : List ℕ) (k : ℕ)
@@ -70,18 +71,18 @@ answer-small (Reading.refused q p) most h = tt
 answer-small (Reading.table n es) most h = h .1
 
 pub read-small : (s : List ℕ) {r : TableRead} → r ≡ answerOf (reading s) → Small r
-read-small s e = subst Small (sym e) (answer-small (reading s) 12649 (reading-answered s))
+read-small s e = subst Small (sym e) (answer-small (reading s) inputLimit (reading-answered s))
 
 -- the table that lies in the cells is the one that the file names
-table-held : (n : ℕ) (es : List Entry) (cells : List ℕ) → n ≤ 40 → Held (Reading.table n es) cells → tableIn n cells ≡ tableRead n es
+table-held : (n : ℕ) (es : List Entry) (cells : List ℕ) → n ≤ sectorLimit → Held (Reading.table n es) cells → tableIn n cells ≡ tableRead n es
 table-held n es cells few h =
-    rw (flows, column 40 (lit≤ tt) (lit< tt), column 41 (lit≤ tt) (lit< tt), column 42 (lit≤ tt) (lit< tt), column 43 (lit≤ tt) (lit< tt), column 44 (lit≤ tt) (lit< tt)) refl
+    rw (flows, column sectorLimit (lit≤ tt) (lit< tt), column 41 (lit≤ tt) (lit< tt), column 42 (lit≤ tt) (lit< tt), column 43 (lit≤ tt) (lit< tt), column 44 (lit≤ tt) (lit< tt)) refl
   where
     flows : take (n * n) cells ≡ take (n * n) (flowsOf n es)
-    flows = sym (take-take (n * n) 1600 cells (mul-le-mul few few)) ∙ ap (λ (l : List ℕ). take (n * n) l) (h .flows)
+    flows = sym (take-take (n * n) sheetLimit cells (mul-le-mul few few)) ∙ ap (λ (l : List ℕ). take (n * n) l) (h .flows)
 
-    column : (c : ℕ) → 40 ≤ c → c < 46 → take n (drop (c * 40) cells) ≡ take n (columnOf c es)
-    column c low high = sym (take-take n 40 (drop (c * 40) cells) few) ∙ ap (λ (l : List ℕ). take n l) (h .columns c low high)
+    column : (c : ℕ) → sectorLimit ≤ c → c < wordLimit → take n (drop (c * sectorLimit) cells) ≡ take n (columnOf c es)
+    column c low high = sym (take-take n sectorLimit (drop (c * sectorLimit) cells) few) ∙ ap (λ (l : List ℕ). take n l) (h .columns c low high)
 
 answer-page : (o : Reading) (most : ℕ) (cells : List ℕ) → Answered most o → Held o cells → pageOf (answerOf o) cells ≡ readingPage o
 answer-page (Reading.refused q p) most cells a h = refl
@@ -89,7 +90,7 @@ answer-page (Reading.table n es) most cells a h = ap tablePage (table-held n es 
 
 pub read-page : (s cells : List ℕ) {r : TableRead} → r ≡ answerOf (reading s) → Held (reading s) cells → pageOf r cells ≡ page s
 unfolding page
-read-page s cells e h = ap (λ (r : TableRead). pageOf r cells) e ∙ answer-page (reading s) 12649 cells (reading-answered s) h
+read-page s cells e h = ap (λ (r : TableRead). pageOf r cells) e ∙ answer-page (reading s) inputLimit cells (reading-answered s) h
 
 -- ---- the call, by the length of its buffer
 pub call-stop : (s l : List ℕ) {z : List ℕ} → (length l ≡ pageLimit → ⊥) → z ≡ replicate (length l) 0 → PagePrinted s l (refuses 1 2 0) z

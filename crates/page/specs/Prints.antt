@@ -2,6 +2,7 @@
 use mathlib.Core.List.{List}
 use Prim.Native.Nat.{ℕ, _≤_}
 use lib.ListN.{take}
+use Rattle.model.specs.Table.{sectorLimit}
 use Rattle.model.specs.Page.{refusalLine, sheet, tablePage}
 use Rattle.model.specs.declared.TableRead.{TableRead}
 use Rattle.model.specs.declared.TableRead.the-variants.{Read, Refused}
@@ -17,7 +18,7 @@ pageOf (Read n k) cells = tablePage (tableIn n cells)
 -- at most 40 sectors
 abbrev pub Small : TableRead → Type 0
 Small (Refused q p) = Unit {0}
-Small (Read n k) = n ≤ 40
+Small (Read n k) = n ≤ sectorLimit
 
 -- a refusal's line, or the sheet of the first figures of four lists
 abbrev pub textOf : Print → (f y value imports : List ℕ) → List ℕ
@@ -27,4 +28,4 @@ textOf (Sheet n k) f y value imports = sheet n (take n f) (take n y) (take n val
 -- of at most 40 sectors
 abbrev pub Few : Print → Type 0
 Few (Refusal q p) = Unit {0}
-Few (Sheet n k) = n ≤ 40
+Few (Sheet n k) = n ≤ sectorLimit

@@ -7,7 +7,7 @@ use native.Mathlib.Omega.{arith}
 use lib.ListN.{length, take, drop, replicate}
 use lib.Seq.{length-take-le}
 use Rattle.model.specs.Numbers.{at}
-use Rattle.model.specs.Table.{Table, tableOf, finalDemand}
+use Rattle.model.specs.Table.{Table, tableOf, finalDemand, sheetLimit}
 use Rattle.model.specs.Rounds.{settled, inducedValueAdded, inducedImports}
 use Rattle.model.specs.Checks.{Report, accepts, refuses, output}
 use Rattle.model.specs.Calls.{coefficientsReport, inputCoefficients, valueAddedCoefficients, importCoefficients, domesticCoefficients, domesticDemands, productionReport, inducedReport}
@@ -49,20 +49,20 @@ module _ (t : Table) where
 part-cut : (k n : ℕ) (cells : List ℕ) → take (k + n - k) (drop k cells) ≡ take n (drop k cells)
 part-cut k n cells = let e : k + n - k ≡ n = omega arith in ap (λ (j : ℕ). take j (drop k cells)) e
 
-pub demand-cut : (n : ℕ) (cells : List ℕ) → take (1600 + n - 1600) (drop 1600 cells) ≡ finalDemand (tableIn n cells)
-demand-cut n cells = part-cut 1600 n cells
+pub demand-cut : (n : ℕ) (cells : List ℕ) → take (sheetLimit + n - sheetLimit) (drop sheetLimit cells) ≡ finalDemand (tableIn n cells)
+demand-cut n cells = part-cut sheetLimit n cells
 
 abbrev pub lentTable : ℕ → List ℕ → Table
 lentTable n cells =
     tableOf n (take (n * n - 0) cells)
-    (take (1600 + n - 1600) (drop 1600 cells) ∷ take (1640 + n - 1640) (drop 1640 cells) ∷ take (1680 + n - 1680) (drop 1680 cells)
+    (take (sheetLimit + n - sheetLimit) (drop sheetLimit cells) ∷ take (1640 + n - 1640) (drop 1640 cells) ∷ take (1680 + n - 1680) (drop 1680 cells)
     ∷ take (1720 + n - 1720) (drop 1720 cells) ∷ take (1760 + n - 1760) (drop 1760 cells) ∷ [])
 
 pub table-cut : (n : ℕ) (cells : List ℕ) {r : Report} {a v m d f : List ℕ} → Sheets (lentTable n cells) r a v m d f → Sheets (tableIn n cells) r a v m d f
 table-cut n cells {r} {a} {v} {m} {d} {f} w =
     let square : n * n - 0 ≡ n * n = omega arith in
     let same : lentTable n cells ≡ tableIn n cells =
-    rw (square, part-cut 1600 n cells, part-cut 1640 n cells, part-cut 1680 n cells, part-cut 1720 n cells, part-cut 1760 n cells) refl in
+    rw (square, part-cut sheetLimit n cells, part-cut 1640 n cells, part-cut 1680 n cells, part-cut 1720 n cells, part-cut 1760 n cells) refl in
     subst (λ (t : Table). Sheets t r a v m d f) same w
 
 -- ---- third call: what a production induces

@@ -5,7 +5,7 @@ use mathlib.Core.Path.{_≡_}
 use Prim.Native.Nat.{ℕ, _*_}
 use lib.ListN.{take, drop}
 use Rattle.model.specs.Numbers.{at}
-use Rattle.model.specs.Table.{Table, tableOf}
+use Rattle.model.specs.Table.{Table, tableOf, sheetLimit}
 use Rattle.model.specs.Rounds.{settled, inducedValueAdded, inducedImports}
 use Rattle.model.specs.Checks.{Report, roundsOf}
 use Rattle.model.specs.Calls.{coefficientsReport, inputCoefficients, valueAddedCoefficients, importCoefficients, domesticCoefficients, domesticDemands, productionReport, inducedReport}
@@ -17,7 +17,7 @@ columnIn n cells from = take n (drop from cells)
 
 abbrev pub tableIn : ℕ → List ℕ → Table
 tableIn n cells =
-    tableOf n (take (n * n) cells) (columnIn n cells 1600 ∷ columnIn n cells 1640 ∷ columnIn n cells 1680 ∷ columnIn n cells 1720 ∷ columnIn n cells 1760 ∷ [])
+    tableOf n (take (n * n) cells) (columnIn n cells sheetLimit ∷ columnIn n cells 1640 ∷ columnIn n cells 1680 ∷ columnIn n cells 1720 ∷ columnIn n cells 1760 ∷ [])
 
 -- first the sheets of a table
 abbrev pub sheetsReport : Table → Report

@@ -5,12 +5,12 @@ ghost use mathlib.Core.Path.{_≡_};
 ghost use Prim.Native.Nat.{ℕ, _+_, _*_, _-_, _<_, _≤_};
 ghost use lib.ListN.{length};
 ghost use Rattle.model.specs.Numbers.{at, cell, tabulate};
-ghost use Rattle.theory_rounds.specs.Bounds.{sumLimit, Narrow};
+ghost use Rattle.theory_rounds.specs.Bounds.{sumLimit, Narrow, narrowLimit};
 ghost use Rattle.theory_rounds.specs.Rises.{raised, Written};
 
 // The same rise; where rises are narrow the compiler is told so.
 fn narrowed(narrow: bool, rise: u64) -> u64
-    requires { ⌜ (narrow ≡ true → rise < 4294967296) ⌝ }
+    requires { ⌜ (narrow ≡ true → rise < narrowLimit) ⌝ }
     ensures { λ r. ⌜ r ≡ rise ⌝ }
 {
     if narrow {

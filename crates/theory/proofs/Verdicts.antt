@@ -8,7 +8,8 @@ use borrow.Author.Tests.{lt-ltb, le-ltb, ltb-false, le-leb, leb-true, eq-eqb}
 use lib.Dec.{ltb, leb, eqb}
 use lib.ListN.{length, replicate}
 use Rattle.model.specs.Numbers.{sum, first, all, at, transposed}
-use Rattle.model.specs.Checks.{Report, Check, refuses, report, verdict, output, each, single, size, lengths}
+use Rattle.model.specs.Table.{sectorLimit}
+use Rattle.model.specs.Checks.{Report, Check, refuses, report, verdict, output, each, single, size, lengths, bounded, countedOn, columnLimit}
 use Rattle.model.specs.Calls.{matrixChecks}
 use Rattle.model.specs.declared.Answer.{Answer}
 use Rattle.model.specs.declared.Answer.the-variants.{Accepted, Refused}
@@ -45,6 +46,10 @@ module _ (number : ℕ) {b : Bool} (qs : List Check) (ks : List ℕ) where
 
   pub single-failed : b ≡ false → verdict (single number b ∷ qs) ks ≡ refuses (length ks) number 0
   single-failed e = failed (single number b) qs ks 0 (le-refl 1) (all-none (λ _. b)) e
+
+-- slices that are counted on from 0: the second begins at the length of the first
+pub counted-first : (limit : ℕ) (s : List ℕ) (qs : List Check) → bounded 3 0 limit s ∷ countedOn (length s) qs ≡ countedOn 0 (bounded 3 0 limit s ∷ qs)
+counted-first limit s qs = ap (λ (place : ℕ). bounded 3 0 limit s ∷ countedOn place qs) (sym (zero-add (length s)))
 
 -- an accepted call's output is its result
 pub output-given : (r : Report) (len : ℕ) (y : List ℕ) → r .accepted ≡ true → output r len y ≡ y
@@ -126,19 +131,19 @@ module _ (ps : List Check) {a : Answer} (said : report a ≡ verdict ps []) wher
 -- ---- checks 1 and 2: where they pass n is from 1 to 40 and the slices have their lengths, and the other way round
 pub record Sized (n : ℕ) (matrices lent : List ℕ) : Type 0 where
   pub some : 1 ≤ n
-  pub few : n ≤ 40
+  pub few : n ≤ sectorLimit
   pub squares : Each (n * n) matrices
   pub slices : Each n lent
 
 module _ (n : ℕ) (matrices lent : List ℕ) where
   pub sized : Passes (size n) → Passes (lengths n matrices lent) → Sized n matrices lent
   sized p q =
-      let s = and-true (leb 1 n) (leb n 40) (p 0 (le-refl 1)) in
+      let s = and-true (leb 1 n) (leb n sectorLimit) (p 0 (le-refl 1)) in
       let l = and-true (all (eqb (n * n)) matrices) (all (eqb n) lent) (q 0 (le-refl 1)) in
-      record { some = leb-true 1 n (s .0); few = leb-true n 40 (s .1); squares = each-equal (n * n) matrices (l .0); slices = each-equal n lent (l .1) }
+      record { some = leb-true 1 n (s .0); few = leb-true n sectorLimit (s .1); squares = each-equal (n * n) matrices (l .0); slices = each-equal n lent (l .1) }
 
-  pub size-passes : 1 ≤ n → n ≤ 40 → Passes (size n)
-  size-passes h l = λ _ _. rw (le-leb 1 n h) (le-leb n 40 l)
+  pub size-passes : 1 ≤ n → n ≤ sectorLimit → Passes (size n)
+  size-passes h l = λ _ _. rw (le-leb 1 n h) (le-leb n sectorLimit l)
 
   pub lengths-pass : all (eqb (n * n)) matrices ≡ true → all (eqb n) lent ≡ true → Passes (lengths n matrices lent)
   lengths-pass e f = λ _ _. rw e f
@@ -152,7 +157,7 @@ module _ (n : ℕ) (d matrices lent : List ℕ) where
           some = s .some;
           few = s .few;
           cells = s .squares .0;
-          low = λ j h. leb-true (sum n (transposed (at n d) j)) 950000 (r j h);
+          low = λ j h. leb-true (sum n (transposed (at n d) j)) columnLimit (r j h);
         },
         s .slices,
       )
@@ -166,6 +171,6 @@ module _ (n : ℕ) (d matrices lent : List ℕ) where
     size-passes n (length d ∷ matrices) lent (A .some) (A .few),
     (
       lengths-pass n (length d ∷ matrices) lent (rw (eq-eqb (n * n) (length d) (sym (A .cells))) e) f,
-      (λ j h. le-leb (sum n (transposed (at n d) j)) 950000 (A .low j h), tt),
+      (λ j h. le-leb (sum n (transposed (at n d) j)) columnLimit (A .low j h), tt),
     ),
   )

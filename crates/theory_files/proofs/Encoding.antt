@@ -10,6 +10,7 @@ use borrow.Author.Tests.{lt-leb, le-leb, leb-true, leb-false, eqb-true, ltb-true
 use lib.Dec.{eqb, leb, ltb}
 use lib.ListN.{length}
 use Rattle.model.specs.Numbers.{first, cell}
+use Rattle.model.specs.Table.{sectorLimit}
 use Rattle.model.specs.File.{Entry, recordLengths, columnWords, columnKinds, amountBytes, encode, amountFrom, kindAt, wholeAt, insideAt, entryAt, namedBefore, Reading, walk}
 use Rattle.theory_files.specs.Files.{Within}
 use Rattle.theory.proofs.Lists.{first-before, and-true}
@@ -87,8 +88,8 @@ flow-stands n i j a rest hi hj =
 column-size : (k : ℕ) → k < 6 → cell recordLengths (cell columnKinds k) ≡ 6
 column-size k h = eqb-true _ _ (first-before 6 (λ i. eqb (cell recordLengths (cell columnKinds i)) 6) k h)
 
-column-word : (k : ℕ) → k < 6 → cell columnWords (cell columnKinds k) ≡ 40 + k
-column-word k h = eqb-true _ _ (first-before 6 (λ i. eqb (cell columnWords (cell columnKinds i)) (40 + i)) k h)
+column-word : (k : ℕ) → k < 6 → cell columnWords (cell columnKinds k) ≡ sectorLimit + k
+column-word k h = eqb-true _ _ (first-before 6 (λ i. eqb (cell columnWords (cell columnKinds i)) (sectorLimit + i)) k h)
 
 unlike : (b : Bool) → cond b false true ≡ true → b ≡ false
 unlike false e = refl
@@ -97,7 +98,7 @@ unlike true e = absurd (false≢true e)
 column-unlike : (q k : ℕ) → first 6 (λ i. cond (eqb (cell columnKinds i) q) false true) ≡ 6 → k < 6 → eqb (cell columnKinds k) q ≡ false
 column-unlike q k e h = unlike _ (first-before 6 (λ i. cond (eqb (cell columnKinds i) q) false true) k (subst (λ (m : ℕ). k < m) (sym e) h))
 
-column-stands : (n k j a : ℕ) (rest : List ℕ) → k < 6 → j < n → Stands n (cell columnKinds k ∷ (j + 1) ∷ (amountBytes a ++ rest)) 0 (made (40 + k) j a) 6
+column-stands : (n k j a : ℕ) (rest : List ℕ) → k < 6 → j < n → Stands n (cell columnKinds k ∷ (j + 1) ∷ (amountBytes a ++ rest)) 0 (made (sectorLimit + k) j a) 6
 unfolding wholeAt insideAt entryAt amountFrom
 column-stands n k j a rest hk hj =
     let long = suc (suc (suc (suc (suc (suc (length rest)))))) in
@@ -113,15 +114,15 @@ column-stands n k j a rest hk hj =
 -- The one lemma of a record: what `encode` wrote of a cell of the table, a reader finds
 pub stands : (n : ℕ) (e : Entry) → Within n e → (before rest : List ℕ) → Stands n (before ++ (encode e ++ rest)) (length before) e (length (encode e))
 unfolding encode
-stands n e f before rest = stands-at n before (encode e ++ rest) e (length (encode e)) (go (ltb (e .word) 40) refl)
+stands n e f before rest = stands-at n before (encode e ++ rest) e (length (encode e)) (go (ltb (e .word) sectorLimit) refl)
   where
-    go : (b : Bool) → ltb (e .word) 40 ≡ b → Stands n (encode e ++ rest) 0 e (length (encode e))
-    go true h = rw h (flow-stands n (e .word) (e .position) (e .amount) rest (f .row (ltb-true (e .word) 40 h)) (f .place))
+    go : (b : Bool) → ltb (e .word) sectorLimit ≡ b → Stands n (encode e ++ rest) 0 e (length (encode e))
+    go true h = rw h (flow-stands n (e .word) (e .position) (e .amount) rest (f .row (ltb-true (e .word) sectorLimit h)) (f .place))
     go false h =
-        let low = ltb-false (e .word) 40 h in
+        let low = ltb-false (e .word) sectorLimit h in
         let high = f .known in
-        let k = e .word - 40 in
-        let same : 40 + k ≡ e .word = omega arith in
+        let k = e .word - sectorLimit in
+        let same : sectorLimit + k ≡ e .word = omega arith in
         let at-40 = column-stands n k (e .position) (e .amount) rest (omega arith) (f .place) in
         rw h (subst (λ (l : ℕ). Stands n (cell columnKinds k ∷ (e .position + 1) ∷ (amountBytes (e .amount) ++ rest)) 0 (made l (e .position) (e .amount)) 6) same at-40)
 

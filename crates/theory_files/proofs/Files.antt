@@ -9,6 +9,7 @@ use borrow.Author.Tests.{lt-leb, le-leb, eq-eqb, ne-eqb}
 use lib.Dec.{ltb}
 use lib.ListN.{length, length-append}
 use Rattle.model.specs.Numbers.{cell}
+use Rattle.model.specs.Table.{sectorLimit}
 use Rattle.model.specs.File.{Entry, encode, encodeAll, fileOf, wholeAt, Reading, walk, reading}
 use Rattle.theory_files.specs.Files.{Fresh}
 use Rattle.theory_files.proofs.Encoding.{stands, step}
@@ -42,9 +43,9 @@ walk-on n es (e ∷ later) before (suc fuel) h f =
 -- a record has a byte, so the file's length is steps enough
 encode-long : (e : Entry) → 1 ≤ length (encode e)
 unfolding encode
-encode-long e = go (ltb (e .word) 40) refl
+encode-long e = go (ltb (e .word) sectorLimit) refl
   where
-    go : (b : Bool) → ltb (e .word) 40 ≡ b → 1 ≤ length (encode e)
+    go : (b : Bool) → ltb (e .word) sectorLimit ≡ b → 1 ≤ length (encode e)
     go true h = rw h (zero-lt-suc 6)
     go false h = rw h (zero-lt-suc 5)
 
@@ -57,7 +58,7 @@ bytes-enough (e ∷ es) =
     omega arith
 
 -- What a writer of files has to know
-pub read-back : (n : ℕ) (es : List Entry) → 1 ≤ n → n ≤ 40 → Fresh n [] es → reading (fileOf n es) ≡ Reading.table n (reverse es)
+pub read-back : (n : ℕ) (es : List Entry) → 1 ≤ n → n ≤ sectorLimit → Fresh n [] es → reading (fileOf n es) ≡ Reading.table n (reverse es)
 unfolding reading fileOf wholeAt
 read-back n es some most f =
     let body = encodeAll es ++ (8 ∷ []) in
@@ -67,5 +68,5 @@ read-back n es some most f =
     let more = bytes-enough es in
     omega arith
     in
-    rw (ne-eqb (suc (suc bytes)) 0 (λ e. omega arith), le-leb 1 n some, le-leb n 40 most, le-leb 2 (suc (suc bytes)) (omega arith))
+    rw (ne-eqb (suc (suc bytes)) 0 (λ e. omega arith), le-leb 1 n some, le-leb n sectorLimit most, le-leb 2 (suc (suc bytes)) (omega arith))
     (walk-on n [] es (1 ∷ n ∷ []) (suc (suc bytes)) enough f)

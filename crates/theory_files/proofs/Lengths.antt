@@ -9,7 +9,8 @@ use borrow.Author.Tests.{ltb-true, ltb-false, lt-ltb, le-ltb, leb-true, eqb-true
 use lib.Dec.{eqb, leb, ltb}
 use lib.ListN.{length, List·getD-eq-default}
 use Rattle.model.specs.Numbers.{sum, cell}
-use Rattle.model.specs.File.{Entry, recordLengths, columnWords, kindAt, isFlow, nextAt, wholeAt, insideAt, entryAt, namedBefore, Reading, walk, reading}
+use Rattle.model.specs.Table.{sectorLimit}
+use Rattle.model.specs.File.{Entry, recordLengths, columnWords, kindAt, isFlow, nextAt, wholeAt, insideAt, entryAt, namedBefore, Reading, walk, reading, fileLimit, wordLimit}
 use Rattle.theory.proofs.Sums.{sum-mono}
 use Rattle.theory.proofs.Lists.{first-before, and-true}
 
@@ -42,31 +43,31 @@ abbrev is : Entry → ℕ → ℕ → Bool
 is e l p = eqb (e .word) l && eqb (e .position) p
 
 abbrev pub wordBytes : ℕ → ℕ
-wordBytes l = cond (ltb l 40) 7 6
+wordBytes l = cond (ltb l sectorLimit) 7 6
 
 abbrev pub count : List Entry → ℕ → ℕ
-count es l = sum 40 (λ p. bit (namedBefore es (place l p)))
+count es l = sum sectorLimit (λ p. bit (namedBefore es (place l p)))
 
 pub weight : List Entry → ℕ
-weight es = sum 46 (λ l. wordBytes l * count es l)
+weight es = sum wordLimit (λ l. wordBytes l * count es l)
 
 bit-most : (b : Bool) → bit b ≤ 1
 bit-most true = le-refl 1
 bit-most false = omega arith
 
-count-most : (es : List Entry) (l : ℕ) → count es l ≤ sum 40 (λ _. 1)
-count-most es l = sum-mono 40 (λ p _. bit-most (namedBefore es (place l p)))
+count-most : (es : List Entry) (l : ℕ) → count es l ≤ sum sectorLimit (λ _. 1)
+count-most es l = sum-mono sectorLimit (λ p _. bit-most (namedBefore es (place l p)))
 
-pub weight-most : (es : List Entry) → weight es ≤ sum 46 (λ l. wordBytes l * 40)
+pub weight-most : (es : List Entry) → weight es ≤ sum wordLimit (λ l. wordBytes l * sectorLimit)
 unfolding weight
-weight-most es = sum-mono 46 (λ l _. mul-le-mul-left (wordBytes l) (count-most es l))
+weight-most es = sum-mono wordLimit (λ l _. mul-le-mul-left (wordBytes l) (count-most es l))
 
 bit-or : (a b : Bool) → bit b ≤ bit (a || b)
 bit-or true b = bit-most b
 bit-or false b = le-refl (bit b)
 
 count-mono : (e : Entry) (es : List Entry) (l : ℕ) → count es l ≤ count (e ∷ es) l
-count-mono e es l = sum-mono 40 (λ p _. bit-or (is e l p) (namedBefore es (place l p)))
+count-mono e es l = sum-mono sectorLimit (λ p _. bit-or (is e l p) (namedBefore es (place l p)))
 
 named-place : (es : List Entry) (e : Entry) → namedBefore es (place (e .word) (e .position)) ≡ namedBefore es e
 named-place [] e = refl
@@ -77,22 +78,22 @@ or-true true b e = refl
 or-true false b e = absurd (false≢true e)
 
 -- a cell that was not named adds its bytes
-count-more : (e : Entry) (es : List Entry) → namedBefore es e ≡ false → e .position < 40 → count es (e .word) + 1 ≤ count (e ∷ es) (e .word)
+count-more : (e : Entry) (es : List Entry) → namedBefore es e ≡ false → e .position < sectorLimit → count es (e .word) + 1 ≤ count (e ∷ es) (e .word)
 count-more e es fresh h =
     let itself : is e (e .word) (e .position) ≡ true =
     rw (eq-eqb (e .word) (e .word) refl, eq-eqb (e .position) (e .position) refl) refl
     in
     let before : bit (namedBefore es (place (e .word) (e .position))) ≡ 0 = ap bit (named-place es e ∙ fresh) in
     let after = or-true (is e (e .word) (e .position)) (namedBefore es (place (e .word) (e .position))) itself in
-    sum-lift 40 (e .position) 1 h (λ p _. bit-or (is e (e .word) p) (namedBefore es (place (e .word) p))) (omega arith)
+    sum-lift sectorLimit (e .position) 1 h (λ p _. bit-or (is e (e .word) p) (namedBefore es (place (e .word) p))) (omega arith)
 
-weight-more : (e : Entry) (es : List Entry) → namedBefore es e ≡ false → e .word < 46 → e .position < 40 → weight es + wordBytes (e .word) ≤ weight (e ∷ es)
+weight-more : (e : Entry) (es : List Entry) → namedBefore es e ≡ false → e .word < wordLimit → e .position < sectorLimit → weight es + wordBytes (e .word) ≤ weight (e ∷ es)
 unfolding weight
 weight-more e es fresh hl hp =
     let b = wordBytes (e .word) in
     let one-more : b * (count es (e .word) + 1) ≤ b * count (e ∷ es) (e .word) = mul-le-mul-left b (count-more e es fresh hp) in
     let split : b * (count es (e .word) + 1) ≡ b * count es (e .word) + b = mul-add b (count es (e .word)) 1 ∙ ap (λ (x : ℕ). b * count es (e .word) + x) (mul-one b) in
-    sum-lift 46 (e .word) b hl (λ l _. mul-le-mul-left (wordBytes l) (count-mono e es l))
+    sum-lift wordLimit (e .word) b hl (λ l _. mul-le-mul-left (wordBytes l) (count-mono e es l))
     (subst (λ (x : ℕ). x ≤ b * count (e ∷ es) (e .word)) split one-more)
 
 -- ---- what the reader has seen of a record when it takes it
@@ -110,7 +111,7 @@ barred false x q p e = (refl, e)
 
 -- a kind with a body, other than 1, 2 and 8, is a column's
 abbrev columnKind : ℕ → Bool
-columnKind k = eqb (cell recordLengths k) 6 && (leb 40 (cell columnWords k) && ltb (cell columnWords k) 46)
+columnKind k = eqb (cell recordLengths k) 6 && (leb sectorLimit (cell columnWords k) && ltb (cell columnWords k) wordLimit)
 
 abbrev other : ℕ → Bool
 other k = eqb (cell recordLengths k) 0 || (eqb k 1 || (eqb k 2 || eqb k 8))
@@ -145,35 +146,35 @@ column-kind k body no-1 no-2 no-8 = go (ltb k 10) refl
 
 pub record Taken (s : List ℕ) (at : ℕ) : Type 0 where
   pub bytes : wordBytes (entryAt s at .word) ≡ cell recordLengths (kindAt s at)
-  pub word-low : entryAt s at .word < 46
-  pub position-low : entryAt s at .position < 40
+  pub word-low : entryAt s at .word < wordLimit
+  pub position-low : entryAt s at .position < sectorLimit
 
 -- a sector byte from 1 to n, less 1, is a sector below 40
-sector-low : (n b : ℕ) → n ≤ 40 → leb 1 b && leb b n ≡ true → b - 1 < 40
+sector-low : (n b : ℕ) → n ≤ sectorLimit → leb 1 b && leb b n ≡ true → b - 1 < sectorLimit
 sector-low n b most e =
     let parts = and-true (leb 1 b) (leb b n) e in
     let low = leb-true 1 b (parts .0) in
     let high = leb-true b n (parts .1) in
     omega arith
 
-below-46 : (i : ℕ) → i < 40 → i < 46
+below-46 : (i : ℕ) → i < sectorLimit → i < wordLimit
 below-46 i h = omega arith
 
-pub taken : (s : List ℕ) (at n : ℕ) → n ≤ 40 → wholeAt s at ≡ true → eqb (kindAt s at) 1 ≡ false → eqb (kindAt s at) 8 ≡ false → insideAt s at n ≡ true → Taken s at
+pub taken : (s : List ℕ) (at n : ℕ) → n ≤ sectorLimit → wholeAt s at ≡ true → eqb (kindAt s at) 1 ≡ false → eqb (kindAt s at) 8 ≡ false → insideAt s at n ≡ true → Taken s at
 unfolding wholeAt insideAt entryAt
 taken s at n most whole no-1 no-8 inside = go (isFlow s at) refl
   where
     parts : (leb 1 (cell s (at + 1)) && leb (cell s (at + 1)) n ≡ true) × (cond (isFlow s at) (leb 1 (cell s (at + 2)) && leb (cell s (at + 2)) n) true ≡ true)
     parts = and-true _ _ inside
 
-    first-low : cell s (at + 1) - 1 < 40
+    first-low : cell s (at + 1) - 1 < sectorLimit
     first-low = sector-low n (cell s (at + 1)) most (parts .0)
 
     go : (b : Bool) → isFlow s at ≡ b → Taken s at
     go true e =
         let second-low = sector-low n (cell s (at + 2)) most (rw e at (parts .1)) in
         record {
-          bytes = rw (e, lt-ltb (cell s (at + 1) - 1) 40 first-low, eqb-true (kindAt s at) 2 e) refl;
+          bytes = rw (e, lt-ltb (cell s (at + 1) - 1) sectorLimit first-low, eqb-true (kindAt s at) 2 e) refl;
           word-low = rw e (below-46 _ first-low);
           position-low = rw e second-low;
         }
@@ -181,9 +182,9 @@ taken s at n most whole no-1 no-8 inside = go (isFlow s at) refl
         let body = and-true (leb 1 (cell recordLengths (kindAt s at))) _ whole .0 in
         let column = and-true _ _ (column-kind (kindAt s at) body no-1 e no-8) in
         let words = and-true _ _ (column .1) in
-        let low = leb-true 40 (cell columnWords (kindAt s at)) (words .0) in
+        let low = leb-true sectorLimit (cell columnWords (kindAt s at)) (words .0) in
         record {
-          bytes = rw (e, le-ltb (cell columnWords (kindAt s at)) 40 low) (sym (eqb-true _ _ (column .0)));
+          bytes = rw (e, le-ltb (cell columnWords (kindAt s at)) sectorLimit low) (sym (eqb-true _ _ (column .0)));
           word-low = rw e (ltb-true _ _ (words .1));
           position-low = rw e first-low;
         }
@@ -199,7 +200,7 @@ offset-on s es at t fresh h =
     let same = t .bytes in
     omega arith
 
-walk-length : (fuel : ℕ) (s : List ℕ) (n : ℕ) (es : List Entry) (at : ℕ) → n ≤ 40 → at ≤ 2 + weight es → accepted (walk fuel s n es at) ≡ true → length s ≤ 12643
+walk-length : (fuel : ℕ) (s : List ℕ) (n : ℕ) (es : List Entry) (at : ℕ) → n ≤ sectorLimit → at ≤ 2 + weight es → accepted (walk fuel s n es at) ≡ true → length s ≤ fileLimit
 unfolding walk
 walk-length zero s n es at most h e = absurd (false≢true e)
 walk-length (suc fuel) s n es at most h e =
@@ -218,12 +219,12 @@ walk-length (suc fuel) s n es at most h e =
     walk-length fuel s n (entryAt s at ∷ es) (nextAt s at) most (offset-on s es at t (fresh .0) h) (fresh .1))
 
 -- "No accepted file exceeds 12,643 bytes"
-pub accepted-length : (s : List ℕ) (n : ℕ) (es : List Entry) → reading s ≡ Reading.table n es → length s ≤ 12643
+pub accepted-length : (s : List ℕ) (n : ℕ) (es : List Entry) → reading s ≡ Reading.table n es → length s ≤ fileLimit
 unfolding reading
 accepted-length s n es e =
     let some = barred (eqb (length s) 0) _ 15 0 (ap accepted e) in
     let whole = through (wholeAt s 0) _ 11 0 (some .1) in
-    let sized = through (eqb (kindAt s 0) 1 && (leb 1 (cell s 1) && leb (cell s 1) 40)) _ 12 0 (whole .1) in
-    let range = leb 1 (cell s 1) && leb (cell s 1) 40 in
-    let size = and-true (leb 1 (cell s 1)) (leb (cell s 1) 40) (and-true (eqb (kindAt s 0) 1) range (sized .0) .1) in
-    walk-length (length s) s (cell s 1) [] 2 (leb-true (cell s 1) 40 (size .1)) (omega arith) (sized .1)
+    let sized = through (eqb (kindAt s 0) 1 && (leb 1 (cell s 1) && leb (cell s 1) sectorLimit)) _ 12 0 (whole .1) in
+    let range = leb 1 (cell s 1) && leb (cell s 1) sectorLimit in
+    let size = and-true (leb 1 (cell s 1)) (leb (cell s 1) sectorLimit) (and-true (eqb (kindAt s 0) 1) range (sized .0) .1) in
+    walk-length (length s) s (cell s 1) [] 2 (leb-true (cell s 1) sectorLimit (size .1)) (omega arith) (sized .1)

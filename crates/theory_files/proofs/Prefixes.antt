@@ -2,7 +2,7 @@
 use mathlib.Core.Bool.{Bool, true, false, _&&_, cond}
 use mathlib.Core.List.{List, [], _∷_}
 use mathlib.Core.Path.{_≡_, refl, ap}
-use Prim.Native.Nat.{ℕ, zero, suc, _+_, _≤_, _<_}
+use Prim.Native.Nat.{ℕ, zero, suc, _+_, _-_, _≤_, _<_}
 use native.Mathlib.Nat.{not-suc-le-zero, le-of-suc-le-suc}
 use native.Mathlib.Omega.{arith}
 use borrow.Author.Tests.{lt-leb, le-leb, leb-true, ltb-true, ltb-false, ne-eqb}
@@ -10,8 +10,10 @@ use lib.Dec.{eqb, leb, ltb}
 use lib.ListN.{length, take}
 use lib.Seq.{length-take-le}
 use Rattle.model.specs.Numbers.{cell}
-use Rattle.model.specs.File.{Entry, recordLengths, amountFrom, kindAt, nextAt, wholeAt, insideAt, entryAt, namedBefore, Reading, walk, reading}
+use Rattle.model.specs.Table.{sectorLimit}
+use Rattle.model.specs.File.{Entry, recordLengths, amountFrom, kindAt, nextAt, wholeAt, insideAt, entryAt, namedBefore, Reading, walk, reading, fileLimit}
 use Rattle.model.specs.Page.{readingPage, page}
+use Rattle.theory_files.specs.Files.{inputLimit}
 use Rattle.theory.proofs.Lists.{first-before, and-true}
 use Rattle.theory_files.proofs.Lengths.{no-kind, weight, weight-most, taken, offset-on}
 
@@ -38,12 +40,12 @@ cond-else true x y z e = refl
 cond-else false x y z e = e refl
 
 -- two inputs that agree below 12,649, and are at least as long
-module _ (s t : List ℕ) (same : (i : ℕ) → i < 12649 → cell t i ≡ cell s i) (long : 12649 ≤ length s) (long′ : 12649 ≤ length t) where
-  amount-same : (k : ℕ) → k < 12646 → amountFrom t k ≡ amountFrom s k
+module _ (s t : List ℕ) (same : (i : ℕ) → i < inputLimit → cell t i ≡ cell s i) (long : inputLimit ≤ length s) (long′ : inputLimit ≤ length t) where
+  amount-same : (k : ℕ) → k < inputLimit - 3 → amountFrom t k ≡ amountFrom s k
   unfolding amountFrom
   amount-same k h = rw (same k (omega arith), same (k + 1) (omega arith), same (k + 2) (omega arith), same (k + 3) (omega arith)) refl
 
-  module _ (at : ℕ) (low : at ≤ 12642) where
+  module _ (at : ℕ) (low : at ≤ fileLimit - 1) where
     inside-same : (n : ℕ) → insideAt t at n ≡ insideAt s at n
     unfolding insideAt
     inside-same n = rw (same at (omega arith), same (at + 1) (omega arith), same (at + 2) (omega arith)) refl
@@ -54,7 +56,7 @@ module _ (s t : List ℕ) (same : (i : ℕ) → i < 12649 → cell t i ≡ cell 
         rw (amount-same (at + 3) (omega arith), amount-same (at + 2) (omega arith), same at (omega arith), same (at + 1) (omega arith), same (at + 2) (omega arith)) refl
 
     -- a record has at most 7 bytes, so it is whole in both or in neither
-    room : (u : List ℕ) → 12649 ≤ length u → leb (at + cell recordLengths (kindAt s at)) (length u) ≡ true
+    room : (u : List ℕ) → inputLimit ≤ length u → leb (at + cell recordLengths (kindAt s at)) (length u) ≡ true
     room u h = le-leb (at + cell recordLengths (kindAt s at)) (length u) (let most = record-most (kindAt s at) in omega arith)
 
     whole-same : wholeAt t at ≡ wholeAt s at
@@ -65,14 +67,14 @@ module _ (s t : List ℕ) (same : (i : ℕ) → i < 12649 → cell t i ≡ cell 
   unfolding wholeAt
   body-some at e = leb-true _ _ (and-true (leb 1 (cell recordLengths (kindAt s at))) _ e .0)
 
-  walk-same : (fuel fuel′ n : ℕ) (es : List Entry) (at : ℕ) → n ≤ 40 → at ≤ 2 + weight es → 12643 ≤ fuel + at → 12643 ≤ fuel′ + at
+  walk-same : (fuel fuel′ n : ℕ) (es : List Entry) (at : ℕ) → n ≤ sectorLimit → at ≤ 2 + weight es → fileLimit ≤ fuel + at → fileLimit ≤ fuel′ + at
       → walk fuel t n es at ≡ walk fuel′ s n es at
   unfolding walk
   walk-same zero fuel′ n es at most h f f′ = absurd (let limit = weight-most es in omega arith)
   walk-same (suc fuel) zero n es at most h f f′ = absurd (let limit = weight-most es in omega arith)
   walk-same (suc fuel) (suc fuel′) n es at most h f f′ =
       let limit = weight-most es in
-      let low : at ≤ 12642 = omega arith in
+      let low : at ≤ fileLimit - 1 = omega arith in
       rw (
         whole-same at low,
         inside-same at low n,
@@ -96,7 +98,7 @@ module _ (s t : List ℕ) (same : (i : ℕ) → i < 12649 → cell t i ≡ cell 
   unfolding reading
   reading-same =
       let n = cell s 1 in
-      let range = leb 1 n && leb n 40 in
+      let range = leb 1 n && leb n sectorLimit in
       rw (
         whole-same 0 (omega arith),
         same 0 (omega arith),
@@ -106,15 +108,15 @@ module _ (s t : List ℕ) (same : (i : ℕ) → i < 12649 → cell t i ≡ cell 
       )
       (cond-then (wholeAt s 0) _ _ _ (λ whole.
       cond-then (eqb (kindAt s 0) 1 && range) _ _ _ (λ sized.
-      let size = and-true (leb 1 n) (leb n 40) (and-true (eqb (kindAt s 0) 1) range sized .1) in
-      walk-same (length t) (length s) n [] 2 (leb-true n 40 (size .1)) (omega arith) (omega arith) (omega arith))))
+      let size = and-true (leb 1 n) (leb n sectorLimit) (and-true (eqb (kindAt s 0) 1) range sized .1) in
+      walk-same (length t) (length s) n [] 2 (leb-true n sectorLimit (size .1)) (omega arith) (omega arith) (omega arith))))
 
 -- A program that reads its input into 12,649 bytes or more answers as if it had read everything
-pub prefix-answers : (k : ℕ) (s : List ℕ) → 12649 ≤ k → k ≤ length s → reading (take k s) ≡ reading s
+pub prefix-answers : (k : ℕ) (s : List ℕ) → inputLimit ≤ k → k ≤ length s → reading (take k s) ≡ reading s
 prefix-answers k s enough h =
     let size = length-take-le k s h in
     reading-same s (take k s) (λ i low. cell-take k s i (omega arith)) (omega arith) (omega arith)
 
-pub prefix-prints : (k : ℕ) (s : List ℕ) → 12649 ≤ k → k ≤ length s → page (take k s) ≡ page s
+pub prefix-prints : (k : ℕ) (s : List ℕ) → inputLimit ≤ k → k ≤ length s → page (take k s) ≡ page s
 unfolding page
 prefix-prints k s enough h = ap readingPage (prefix-answers k s enough h)

@@ -10,14 +10,16 @@ use lib.Dec.{eqb, leb, ltb, lit≤}
 use lib.ListN.{length, take}
 use lib.Seq.{length-take-le}
 use Rattle.model.specs.Numbers.{cell}
+use Rattle.model.specs.Table.{sectorLimit}
 use Rattle.model.specs.File.{Entry, kindAt, nextAt, wholeAt, insideAt, entryAt, namedBefore, Reading, walk, reading}
+use Rattle.theory_files.specs.Files.{inputLimit}
 use Rattle.theory.proofs.Lists.{and-true}
 use Rattle.theory_files.proofs.Prefixes.{prefix-answers}
 
 -- with places up to `most`
 abbrev pub Answered : ℕ → Reading → Type 0
 Answered most (Reading.refused number place) = (number ≤ 15) × (place ≤ most)
-Answered most (Reading.table n es) = (1 ≤ n) × (n ≤ 40)
+Answered most (Reading.table n es) = (1 ≤ n) × (n ≤ sectorLimit)
 
 -- with places in the file: a test that refuses where it passes, and one that refuses where it fails
 unless : (len : ℕ) (b : Bool) (x : Reading) (number place : ℕ) → (number ≤ 15) × (place ≤ len) → (b ≡ false → Answered len x)
@@ -34,7 +36,7 @@ either : (len : ℕ) (b : Bool) (x y : Reading) → Answered len x → Answered 
 either len true x y p q = p
 either len false x y p q = q
 
-walk-answered : (fuel : ℕ) (s : List ℕ) (n : ℕ) (es : List Entry) (at : ℕ) → 1 ≤ n → n ≤ 40 → Answered (length s) (walk fuel s n es at)
+walk-answered : (fuel : ℕ) (s : List ℕ) (n : ℕ) (es : List Entry) (at : ℕ) → 1 ≤ n → n ≤ sectorLimit → Answered (length s) (walk fuel s n es at)
 unfolding walk
 walk-answered zero s n es at some few = (le-refl 15, le-refl (length s))
 walk-answered (suc fuel) s n es at some few =
@@ -54,25 +56,25 @@ unfolding reading
 whole-answered s =
     let len = length s in
     let n = cell s 1 in
-    let range = leb 1 n && leb n 40 in
+    let range = leb 1 n && leb n sectorLimit in
     unless len (eqb len 0) _ 15 0 (le-refl 15, omega arith) (λ some.
     provided len (wholeAt s 0) _ 11 0 (lit≤ tt, omega arith) (λ whole.
     provided len (eqb (kindAt s 0) 1 && range) _ 12 0 (lit≤ tt, omega arith) (λ sized.
-    let size = and-true (leb 1 n) (leb n 40) (and-true (eqb (kindAt s 0) 1) range sized .1) in
-    walk-answered len s n [] 2 (leb-true 1 n (size .0)) (leb-true n 40 (size .1)))))
+    let size = and-true (leb 1 n) (leb n sectorLimit) (and-true (eqb (kindAt s 0) 1) range sized .1) in
+    walk-answered len s n [] 2 (leb-true 1 n (size .0)) (leb-true n sectorLimit (size .1)))))
 
 answered-more : (a b : ℕ) (r : Reading) → a ≤ b → Answered a r → Answered b r
 answered-more a b (Reading.refused number place) h p = (p .0, omega (arith, p .1))
 answered-more a b (Reading.table n es) h p = p
 
 -- a longer file is answered as its first 12,649 bytes are
-pub reading-answered : (s : List ℕ) → Answered 12649 (reading s)
-reading-answered s = split (ltb (length s) 12649) refl
+pub reading-answered : (s : List ℕ) → Answered inputLimit (reading s)
+reading-answered s = split (ltb (length s) inputLimit) refl
   where
-    split : (b : Bool) → ltb (length s) 12649 ≡ b → Answered 12649 (reading s)
-    split true e = answered-more (length s) 12649 (reading s) (omega (arith, ltb-true (length s) 12649 e)) (whole-answered s)
+    split : (b : Bool) → ltb (length s) inputLimit ≡ b → Answered inputLimit (reading s)
+    split true e = answered-more (length s) inputLimit (reading s) (omega (arith, ltb-true (length s) inputLimit e)) (whole-answered s)
     split false e =
-        let long = ltb-false (length s) 12649 e in
-        let start = take 12649 s in
-        subst (Answered 12649) (prefix-answers 12649 s (le-refl 12649) long)
-        (answered-more (length start) 12649 (reading start) (omega (arith, length-take-le 12649 s long)) (whole-answered start))
+        let long = ltb-false (length s) inputLimit e in
+        let start = take inputLimit s in
+        subst (Answered inputLimit) (prefix-answers inputLimit s (le-refl inputLimit) long)
+        (answered-more (length start) inputLimit (reading start) (omega (arith, length-take-le inputLimit s long)) (whole-answered start))

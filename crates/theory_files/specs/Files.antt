@@ -2,13 +2,18 @@
 use mathlib.Core.Bool.{false}
 use mathlib.Core.List.{List, [], _∷_}
 use mathlib.Core.Path.{_≡_}
-use Prim.Native.Nat.{ℕ, _<_}
-use Rattle.model.specs.File.{Entry, namedBefore}
+use Prim.Native.Nat.{ℕ, _+_, _<_}
+use Rattle.model.specs.Table.{sectorLimit}
+use Rattle.model.specs.File.{Entry, namedBefore, wordLimit, fileLimit}
+
+-- an input is answered as its first 12,649 bytes are: the walk never looks further
+abbrev pub inputLimit : ℕ
+inputLimit = fileLimit + 6
 
 -- e names a cell that a table of n sectors has
 pub record Within (n : ℕ) (e : Entry) : Type 0 where
-  pub known : e .word < 46
-  pub row : e .word < 40 → e .word < n
+  pub known : e .word < wordLimit
+  pub row : e .word < sectorLimit → e .word < n
   pub place : e .position < n
 
 -- each does, and none names a cell that one of `es` or one before it named

@@ -10,14 +10,15 @@ use lib.Dec.{ltb, lit≤, lit<}
 use lib.ListN.{length, drop, replicate, length-append, length-replicate}
 use lib.Seq.{sets, sets-eq}
 use Rattle.model.specs.Numbers.{first, cell, at}
-use Rattle.model.specs.Table.{Table, finalDemand, portion}
+use Rattle.model.specs.Table.{Table, finalDemand, portion, sectorLimit}
 use Rattle.model.specs.Rounds.{settling, intermediate, inducedValueAdded, inducedImports}
-use Rattle.model.specs.Checks.{Report, accepts, roundsOf, Check, verdict, refuses, size, lengths, bounded, counted, amountLimit, balanceChecks, columnSums, single, settles, demandLimit}
+use Rattle.model.specs.Checks.{Report, accepts, roundsOf, Check, verdict, refuses, size, lengths, bounded, countedOn, amountLimit, balanceChecks, columnSums, single, settles, demandLimit}
 use Rattle.model.specs.Calls.{coefficientsReport, inputCoefficients, valueAddedCoefficients, importCoefficients, domesticCoefficients, domesticDemands, productionReport, inducedReport}
 use Rattle.model.specs.File.{Reading, reading}
 use Rattle.model.specs.Text.{decimal, line}
 use Rattle.model.specs.Figures.{pageBudget, firstRefusal, figuresProduction, figuresValue, figuresImports}
 use Rattle.model.specs.Page.{headings, refusalLine, orRefusal, sectorLine, linesTo, roundsLine, sheet, tablePage, tableRead, readingPage, page, pageLimit, pageBytes, pageReport}
+use Rattle.theory_files.specs.Files.{inputLimit}
 use Rattle.theory.specs.Slices.{Columns}
 use Rattle.theory.proofs.Sums.{upto, sum-cell, cell-in}
 use Rattle.theory.proofs.Lists.{cell-tabulate, first-before}
@@ -68,11 +69,11 @@ verdict-near (q ∷ qs) k h = check-near q qs k (omega arith) (λ _. verdict-nea
 
 -- slices of n cells each: their places are counted on, n at a slice
 slices-near : (n place limit : ℕ) (ss : List (List ℕ)) (qs : List Check) (k : List ℕ) → Columns n ss → 3 + place + length ss * n ≤ 100000
-    → Near (verdict qs k) → Near (verdict (counted place limit ss ++ qs) k)
+    → Near (verdict qs k) → Near (verdict (countedOn place (map (bounded 3 0 limit) ss) ++ qs) k)
 slices-near n place limit [] qs k c few more = more
 slices-near n place limit (s ∷ ss) qs k c few more =
     let long : length s ≡ n = c 0 (zero-lt-suc (length ss)) in
-    check-near (bounded 3 place limit s) (counted (place + length s) limit ss ++ qs) k (omega arith) (λ _.
+    check-near (bounded 3 place limit s) (countedOn (place + length s) (map (bounded 3 0 limit) ss) ++ qs) k (omega arith) (λ _.
     slices-near n (place + length s) limit ss qs k (λ i h. c (suc i) (suc-le-suc h)) (omega arith) more)
 
 -- ---- the sheet: 39 bytes, n lines of at most 70, and 12
@@ -85,7 +86,7 @@ lines-fit (suc n) w most h =
 abbrev pub Printable : ℕ → List ℕ → Type 0
 Printable n xs = (i : ℕ) → i < n → cell xs i < 10 ^ 13
 
-pub sector-fits : (n : ℕ) (f y v m : List ℕ) → n ≤ 40 → Printable n f → Printable n y → Printable n v → Printable n m
+pub sector-fits : (n : ℕ) (f y v m : List ℕ) → n ≤ sectorLimit → Printable n f → Printable n y → Printable n v → Printable n m
     → (i : ℕ) → i < n → length (sectorLine f y v m i) ≤ 70
 sector-fits n f y v m few pf py pv pm i h =
     line-fits 12 ((i + 1) ∷ cell f i ∷ cell y i ∷ cell v i ∷ cell m i ∷ []) (lit≤ tt)
@@ -94,7 +95,7 @@ sector-fits n f y v m few pf py pv pm i h =
 pub rounds-fits : (k : ℕ) → k ≤ pageBudget → length (roundsLine k) ≤ 12
 rounds-fits k h = omega (arith, length-append (decimal k) (10 ∷ []), decimal-fits 3 k (omega arith))
 
-pub sheet-fits : (n : ℕ) (f y v m : List ℕ) (k : ℕ) → n ≤ 40 → Printable n f → Printable n y → Printable n v → Printable n m → k ≤ pageBudget
+pub sheet-fits : (n : ℕ) (f y v m : List ℕ) (k : ℕ) → n ≤ sectorLimit → Printable n f → Printable n y → Printable n v → Printable n m → k ≤ pageBudget
     → length (sheet n f y v m k) ≤ pageLimit
 unfolding sheet
 sheet-fits n f y v m k few pf py pv pm h =
@@ -136,7 +137,7 @@ module _ (n : ℕ) (a m v F y lent : List ℕ) (g : InducedGiven n a m v F y len
       )
 
 -- ---- the page of any table that has a column for final demand, and 40 columns at most
-module _ (t : Table) (some-columns : 1 ≤ length (t .columns)) (few-columns : length (t .columns) ≤ 40) where
+module _ (t : Table) (some-columns : 1 ≤ length (t .columns)) (few-columns : length (t .columns) ≤ sectorLimit) where
   abbrev n : ℕ
   n = t .sectors
 
@@ -175,7 +176,7 @@ module _ (t : Table) (some-columns : 1 ≤ length (t .columns)) (few-columns : l
   table-near =
       let second = lengths n (length (t .flows) ∷ squares) (map length (t .columns) ++ columns) in
       let third = bounded 3 0 amountLimit (t .flows) in
-      let amounts = counted (0 + length (t .flows)) amountLimit (t .columns) in
+      let amounts = countedOn (0 + length (t .flows)) (map (bounded 3 0 amountLimit) (t .columns)) in
       let seventh = columnSums n (at n d) ∷ [] in
       let later = amounts ++ balanceChecks t ++ seventh in
       check-near (size n) (second ∷ third ∷ later) [] (lit≤ tt) (λ p.
@@ -240,7 +241,7 @@ module _ (t : Table) (some-columns : 1 ≤ length (t .columns)) (few-columns : l
           rw same (refusal-fits (sheets .number) (sheets .place) table-near)
 
 -- ---- the page of a file: its own refusals have a number up to 15, and a place up to 12,649
-reading-fits : (r : Reading) → Answered 12649 r → length (readingPage r) ≤ pageLimit
+reading-fits : (r : Reading) → Answered inputLimit r → length (readingPage r) ≤ pageLimit
 reading-fits (Reading.refused number place) p = refusal-fits number place (omega (arith, p .0, p .1))
 reading-fits (Reading.table n es) p = table-fits (tableRead n es) (lit≤ tt) (lit≤ tt)
 

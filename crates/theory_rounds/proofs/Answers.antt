@@ -9,6 +9,7 @@ use borrow.Author.Tests.{le-leb, lt-leb, leb-true}
 use lib.Dec.{leb}
 use lib.ListN.{length}
 use Rattle.model.specs.Numbers.{one, sum, cell, at}
+use Rattle.model.specs.Table.{sectorLimit}
 use Rattle.model.specs.Rounds.{intermediate, changes, settling, settled, Settles}
 use Rattle.model.specs.Checks.{Report, accepts, refuses, roundsOf, output, verdict, size, lengths, amountLimit, inducedAmounts, bounded, productionLimit, productionTotal, demandLeft, single, settles}
 use Rattle.model.specs.Calls.{matrixChecks, settlingChecks, settlingReport, impliedReport, inducedReport}
@@ -97,7 +98,7 @@ module _ (n : ℕ) (c : ℕ → ℕ → ℕ) (s : List ℕ) (budget : ℕ) where
 
 -- ---- induced amounts: questions 1 and 2, and an accepted call. The production comes by its length ly
 pub record InducedSizes (n : ℕ) (a m v F : List ℕ) (ly : ℕ) (lent : List ℕ) : Type 0 where
-  pub few : n ≤ 40
+  pub few : n ≤ sectorLimit
   pub inputs : length a ≡ n * n
   pub imports : length m ≡ n
   pub values : length v ≡ n
@@ -124,7 +125,7 @@ pub accepted-induced : (n : ℕ) (a m v F y lent : List ℕ) → inducedReport n
 unfolding inducedReport
 accepted-induced n a m v F y lent accepted =
     let columns = length m ∷ length v ∷ length F ∷ length y ∷ lent in
-    let qs = size n ∷ lengths n (length a ∷ []) columns ∷ inducedAmounts n a m v F ++ (productionTotal n y ∷ []) in
+    let qs = size n ∷ lengths n (length a ∷ []) columns ∷ inducedAmounts a m v F ++ (productionTotal n y ∷ []) in
     let p = accepted-all qs [] accepted in
     let s = induced-sizes n a m v F (length y) lent (p .0) (p .1 .0) in
     let b = p .1 .1 in

@@ -6,6 +6,7 @@ use native.Mathlib.Omega.{arith}
 use native.Mathlib.Nat.{le-trans, le-of-eq, add-le-add, mul-le-mul-left, mul-comm}
 use Rattle.model.specs.Numbers.{largest, one, sum, transposed}
 use Rattle.model.specs.Rounds.{product, weighted}
+use Rattle.model.specs.Checks.{columnLimit}
 use Rattle.model.specs.Promises.{LowColumns}
 use Rattle.theory.proofs.Sums.{sum-mono, sum-cong, sum-add, sum-const, sum-scale, sum-cell, sum-swap, largest-le, largest-cell, largest-scale}
 
@@ -16,15 +17,15 @@ pub record Gauge (n : ℕ) (c : ℕ → ℕ → ℕ) (N : (ℕ → ℕ) → ℕ)
   pub scale : (f : ℕ → ℕ) → N (λ i. one * f i) ≡ one * N f
   pub flat : (a : ℕ) → N (λ i. a) ≤ u * a
   pub cells : (f : ℕ → ℕ) (i : ℕ) → i < n → f i ≤ N f
-  pub shrinks : (f : ℕ → ℕ) → N (weighted n c f) ≤ 950000 * N f
+  pub shrinks : (f : ℕ → ℕ) → N (weighted n c f) ≤ columnLimit * N f
 
 module _ (n : ℕ) (c : ℕ → ℕ → ℕ) (low : LowColumns n c) where
   -- the total of all weighted sums is a sum over the columns
-  columns-weighted : (f : ℕ → ℕ) → sum n (weighted n c f) ≤ 950000 * sum n f
+  columns-weighted : (f : ℕ → ℕ) → sum n (weighted n c f) ≤ columnLimit * sum n f
   columns-weighted f =
       le-trans (le-of-eq (sum-swap n n (product c f) ∙ sum-cong n (λ j h. column j)))
       (le-trans (sum-mono n (λ j h. mul-le-mul-left (f j) (low j h)))
-      (le-of-eq (sum-cong n (λ j h. mul-comm (f j) 950000) ∙ sum-scale n 950000 f)))
+      (le-of-eq (sum-cong n (λ j h. mul-comm (f j) columnLimit) ∙ sum-scale n columnLimit f)))
     where
       column : (j : ℕ) → sum n (λ i. c i j * f j) ≡ f j * sum n (transposed c j)
       column j = sum-cong n (λ i h. mul-comm (c i j) (f j)) ∙ sum-scale n (f j) (transposed c j)
@@ -41,11 +42,11 @@ module _ (n : ℕ) (c : ℕ → ℕ → ℕ) (low : LowColumns n c) where
         shrinks = columns-weighted;
       }
 
-  rows-weighted : (f : ℕ → ℕ) (i : ℕ) → i < n → weighted n (transposed c) f i ≤ 950000 * largest n f
+  rows-weighted : (f : ℕ → ℕ) (i : ℕ) → i < n → weighted n (transposed c) f i ≤ columnLimit * largest n f
   rows-weighted f i h =
       le-trans (sum-mono n (λ j k. mul-le-mul-left (c j i) (largest-cell n f j k)))
       (le-trans (le-of-eq (sum-cong n (λ j k. mul-comm (c j i) (largest n f)) ∙ sum-scale n (largest n f) (transposed c i)))
-      (le-trans (mul-le-mul-left (largest n f) (low i h)) (le-of-eq (mul-comm (largest n f) 950000))))
+      (le-trans (mul-le-mul-left (largest n f) (low i h)) (le-of-eq (mul-comm (largest n f) columnLimit))))
 
   -- the largest is one for the same matrix transposed
   pub largest-gauge : Gauge n (transposed c) (largest n) 1

@@ -11,7 +11,7 @@ use lib.ListN.{length}
 use Rattle.model.specs.Numbers.{one, sum, all, cell, at, transposed}
 use Rattle.model.specs.Table.{Table, finalDemand, inputCoefficient, valueAddedCoefficient, importCoefficient, domesticCoefficient, domesticDemand}
 use Rattle.model.specs.Rounds.{settling, settled}
-use Rattle.model.specs.Checks.{Check, accepts, verdict, size, lengths, bounded, single, settles, demandLimit, amountLimit, columnSums, inducedAmounts, productionLimit, productionTotal}
+use Rattle.model.specs.Checks.{Check, accepts, verdict, size, lengths, bounded, single, settles, demandLimit, amountLimit, columnSums, inducedAmounts, productionLimit, productionTotal, columnLimit}
 use Rattle.model.specs.Calls.{tableChecks, matrixChecks, coefficientsReport, productionReport, inducedReport, inputCoefficients, valueAddedCoefficients, importCoefficients, domesticCoefficients, domesticDemands}
 use Rattle.model.specs.Promises.{AcceptedMatrix}
 use Rattle.theory.proofs.Sums.{sum-part}
@@ -69,7 +69,7 @@ module _ (t : Table) (matrices lent : List ℕ) (ok : coefficientsReport t matri
         some = table-accepted .sizes .some;
         few = table-accepted .sizes .few;
         cells = length-domestic t;
-        low = λ j h. leb-true (sum (t .sectors) (transposed (at (t .sectors) (domesticCoefficients t)) j)) 950_000 (passes .1 .0 j h);
+        low = λ j h. leb-true (sum (t .sectors) (transposed (at (t .sectors) (domesticCoefficients t)) j)) columnLimit (passes .1 .0 j h);
       }
 
   -- production of its d and f is never refused with 1, 2, 7 or 8: question 9 alone decides
@@ -110,7 +110,7 @@ module _ (t : Table) (matrices lent : List ℕ) (ok : coefficientsReport t matri
       let slices : all (eqb n) columns ≡ true =
       rw (eq-eqb n (length m) (sym (length-imports t)), eq-eqb n (length v) (sym (length-values t)), eq-eqb n (length F) (sym (A .sizes .columns 0 some-columns)), eq-eqb n (length y) (sym len), eq-eqb n n refl) in
       let squares : all (eqb (n * n)) (length a ∷ []) ≡ true = rw (eq-eqb (n * n) (length a) (sym (length-inputs t))) in
-      pass-on (size n ∷ lengths n (length a ∷ []) columns ∷ inducedAmounts n a m v F ++ (productionTotal n y ∷ [])) [] [] (
+      pass-on (size n ∷ lengths n (length a ∷ []) columns ∷ inducedAmounts a m v F ++ (productionTotal n y ∷ [])) [] [] (
         size-passes n (length a ∷ []) columns (A .sizes .some) (A .sizes .few),
         (
           lengths-pass n (length a ∷ []) columns squares slices,

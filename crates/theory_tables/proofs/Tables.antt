@@ -10,7 +10,7 @@ use lib.Dec.{ltb}
 use lib.ListN.{length, getD, List·getD-eq-default}
 use Rattle.model.specs.Numbers.{one, tabulate, cell, at, matrix, transposed}
 use Rattle.model.specs.Table.{Table, finalDemand, exports, imports, valueAdded, production, flow, need, portion, inputCoefficient, valueAddedCoefficient, importCoefficient, domesticCoefficient, domesticDemand}
-use Rattle.model.specs.Checks.{size, lengths, bounded, counted, amountLimit, demandLimit, tableAmounts, balanceChecks}
+use Rattle.model.specs.Checks.{size, lengths, bounded, countedOn, amountLimit, demandLimit, tableAmounts, balanceChecks}
 use Rattle.model.specs.Calls.{tableChecks, inputCoefficients, importCoefficients, domesticCoefficients, domesticDemands}
 use Rattle.theory.specs.Slices.{Each, Columns}
 use Rattle.theory_tables.specs.Tables.{TableSizes, TableAmounts, Balanced}
@@ -38,10 +38,6 @@ table-sizes t matrices lent p q =
     let l = slice-lengths n (t .columns) lent (s .slices) in
     (record { some = s .some; few = s .few; flows = s .squares .0; columns = l .0 }, s .squares .1, l .1)
 
--- the amounts of the columns are counted on from the length of x
-pub amounts-are : (t : Table) → bounded 3 0 amountLimit (t .flows) ∷ counted (length (t .flows)) amountLimit (t .columns) ≡ tableAmounts t
-amounts-are t = ap (λ (place : ℕ). bounded 3 0 amountLimit (t .flows) ∷ counted place amountLimit (t .columns)) (sym (zero-add (length (t .flows))))
-
 -- a cell of a bounded slice, and of any of slices with one limit
 bounded-cell : (place limit : ℕ) (s : List ℕ) → Passes (bounded 3 place limit s) → (k : ℕ) → cell s k ≤ limit
 bounded-cell place limit s p k = split (ltb k (length s)) refl
@@ -50,7 +46,7 @@ bounded-cell place limit s p k = split (ltb k (length s)) refl
     split true e = leb-true (cell s k) limit (p k (ltb-true k (length s) e))
     split false e = rw (List·getD-eq-default s 0 (ltb-false k (length s) e)) zero-le
 
-pub counted-cell : (place limit : ℕ) (ss : List (List ℕ)) → AllPass (counted place limit ss) → (c k : ℕ) → cell (getD ss c []) k ≤ limit
+pub counted-cell : (place limit : ℕ) (ss : List (List ℕ)) → AllPass (countedOn place (map (bounded 3 0 limit) ss)) → (c k : ℕ) → cell (getD ss c []) k ≤ limit
 counted-cell place limit [] p c k = zero-le
 counted-cell place limit (s ∷ ss) p zero k = bounded-cell place limit s (p .0) k
 counted-cell place limit (s ∷ ss) p (suc c) k = counted-cell (place + length s) limit ss (p .1) c k

@@ -3,14 +3,14 @@ use mathlib.Core.Path.{_≡_}
 use Prim.Native.Nat.{ℕ, _+_, _*_, _≤_, _<_}
 use lib.ListN.{length}
 use Rattle.model.specs.Numbers.{sum, cell, transposed}
-use Rattle.model.specs.Table.{Table, column, flow, need, exports, imports, valueAdded, production}
+use Rattle.model.specs.Table.{Table, column, flow, need, exports, imports, valueAdded, production, sectorLimit}
 use Rattle.model.specs.Checks.{amountLimit}
 use Rattle.theory.specs.Slices.{Columns}
 
 -- questions 1 and 2 pass
 pub record TableSizes (t : Table) : Type 0 where
   pub some : 1 ≤ t .sectors
-  pub few : t .sectors ≤ 40
+  pub few : t .sectors ≤ sectorLimit
   pub flows : length (t .flows) ≡ t .sectors * t .sectors
   pub columns : Columns (t .sectors) (t .columns)
 

@@ -9,6 +9,7 @@ use borrow.Author.Needs.{needs}
 use borrow.Author.Tests.{not-true, not-false, leb-true}
 use lib.Dec.{leb, eqb}
 use Rattle.model.specs.Numbers.{all}
+use Rattle.model.specs.Table.{sectorLimit}
 use Rattle.model.specs.Checks.{verdict, accepts, refuses, size, lengths}
 use Rattle.theory.proofs.Lists.{and-true}
 use Rattle.theory.proofs.Verdicts.{single-passed, single-failed}
@@ -17,7 +18,7 @@ use Rattle.checks.proofs.check_sizes.Tie as tie
 
 -- the test of question 1, and of question 2
 abbrev sized : ℕ → Bool
-sized n = leb 1 n && leb n 40
+sized n = leb 1 n && leb n sectorLimit
 
 abbrev shaped : ℕ → List ℕ → List ℕ → Bool
 shaped n matrices lent = all (eqb (n * n)) matrices && all (eqb n) lent
@@ -40,8 +41,8 @@ entry c = c .before .before .before .before
 passed-1 : (c : tie.Else1) → sized (entry c .args .n) ≡ true
 passed-1 c = sym (c .before .is-sized .ensures) ∙ not-false _ (c .if1 .left)
 
-few : (c : tie.Else1) → entry c .args .n ≤ 40
-few c = leb-true _ 40 (and-true (leb 1 (entry c .args .n)) _ (passed-1 c) .1)
+few : (c : tie.Else1) → entry c .args .n ≤ sectorLimit
+few c = leb-true _ sectorLimit (and-true (leb 1 (entry c .args .n)) _ (passed-1 c) .1)
 
 returns : tie.Need-returns
 returns c =

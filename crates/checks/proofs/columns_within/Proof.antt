@@ -5,7 +5,7 @@ use mathlib.Core.Path.{_≡_, refl, sym}
 use Prim.Native.Nat.{ℕ, _+_, _*_, _≤_, _-_, _<_}
 use native.Mathlib.Omega.{arith}
 use Rattle.model.specs.Numbers.{sum, at, transposed}
-use Rattle.model.specs.Checks.{columnSums}
+use Rattle.model.specs.Checks.{columnSums, columnLimit}
 use Rattle.theory.proofs.Sums.{sum-more, sum-over, sum-under, cell-in}
 use Rattle.theory.proofs.Lists.{All, all-none, all-more}
 use Rattle.theory.proofs.Verdicts.{passed, failed-each}
@@ -13,7 +13,7 @@ use Rattle.checks.proofs.columns_within.Statement.{statement}
 use Rattle.checks.proofs.columns_within.Tie as tie
 
 abbrev Inv-loop : tie.InvT-loop
-Inv-loop n d j sum₀ i₀ s i = (i ≤ n) × (s ≡ sum i (transposed (at n d) j)) × (s ≤ 950000)
+Inv-loop n d j sum₀ i₀ s i = (i ≤ n) × (s ≡ sum i (transposed (at n d) j)) × (s ≤ columnLimit)
 
 abbrev μ-loop : tie.MeasureT-loop
 μ-loop n d j sum₀ i₀ s i = n - i
@@ -43,7 +43,7 @@ scan-again : tie.Need-scan-again Inv-loop μ-loop Inv-scan μ-scan
 scan-again c =
     let l = c .before .loop in
     let p = c .before .before .before in
-    let under = sum-under (column p) (l .i) _ (l .sum) 950000 (l .inv .1) (l .inv .0) (c .loop-test .left) (l .inv .2) in
+    let under = sum-under (column p) (l .i) _ (l .sum) columnLimit (l .inv .1) (l .inv .0) (c .loop-test .left) (l .inv .2) in
     (omega arith, all-more _ (p .scan .j) (p .scan .inv .1) under)
 
 returns : tie.Need-returns Inv-loop μ-loop Inv-scan μ-scan
@@ -57,7 +57,7 @@ returns-2 c =
     let l = c .before .before .before .loop in
     let p = c .before .before .before .before .before in
     let a = p .before .args in
-    let over = sum-over (column p) (l .i) _ (l .sum) 950000 (l .inv .1) (c .before .before .loop-test .taken) (c .if2 .taken) in
+    let over = sum-over (column p) (l .i) _ (l .sum) columnLimit (l .inv .1) (c .before .before .loop-test .taken) (c .if2 .taken) in
     sym (failed-each 7 (a .n) (columnSums (a .n) (at (a .n) (a .d .now)) .passes) [] [] (p .scan .j) (c .before .before .before .before .if1 .left) (p .scan .inv .1) over)
 
 pub columns-within-spec : {M : Type 1} → statement M

@@ -2,6 +2,7 @@
 use native.Mathlib.Omega.{arith}
 use borrow.Author.Needs.{needs}
 use lib.Dec.{lit≤, lit<}
+use Rattle.model.specs.Table.{sectorLimit}
 use Rattle.file_reader.proofs.Delivery.{fit-or-not, either, put-flows, put-column}
 use Rattle.file_reader.proofs.deliver.Statement.{statement}
 use Rattle.file_reader.proofs.deliver.Tie as tie
@@ -41,7 +42,7 @@ returns c =
     let d = fit-or-not _ _ _ _ _ _ _ _ s o e in
     record {
       flows = put-flows o _ h _ _ (either (λ f. f .flows) d) (c1 .put-part .ensures);
-      finalDemand = put-column o _ h 40 (lit≤ tt) (lit< tt) _ _ (either (λ f. f .finalDemand) d) (c2 .put-part2 .ensures);
+      finalDemand = put-column o _ h sectorLimit (lit≤ tt) (lit< tt) _ _ (either (λ f. f .finalDemand) d) (c2 .put-part2 .ensures);
       exports = put-column o _ h 41 (lit≤ tt) (lit< tt) _ _ (either (λ f. f .exports) d) (c3 .put-part3 .ensures);
       imports = put-column o _ h 42 (lit≤ tt) (lit< tt) _ _ (either (λ f. f .imports) d) (c4 .put-part4 .ensures);
       valueAdded = put-column o _ h 43 (lit≤ tt) (lit< tt) _ _ (either (λ f. f .valueAdded) d) (c5 .put-part5 .ensures);

@@ -5,7 +5,7 @@ use Prim.Native.Nat.{ℕ}
 use borrow.Author.Needs.{needs}
 use borrow.Author.Tests.{not-true, not-false}
 use lib.ListN.{length, replicate}
-use Rattle.model.specs.File.{Reading, fits, answerOf}
+use Rattle.model.specs.File.{Reading, fits, answerOf, wordLimit}
 use Rattle.file_walk.specs.Steps.{Held}
 use Rattle.file_walk.proofs.CellLaws.{held-refused}
 use Rattle.file_reader.proofs.Delivery.{fit-words, called-fit, called-unfit}
@@ -27,7 +27,7 @@ start p = p .before .before .before .before .before .before
 passes : (p : tie.Else1) → let a = start p .args in fits (a .x) (a .columns .now) (length (a .marks .now)) ≡ true
 passes p = sym (p .before .is-fit .ensures) ∙ not-false _ (p .if1 .left)
 
-words : (p : tie.Else1) → length (start p .args .marks .now) ≡ 46
+words : (p : tie.Else1) → length (start p .args .marks .now) ≡ wordLimit
 words p = let a = start p .args in fit-words (a .x) (a .columns .now) (length (a .marks .now)) (passes p)
 
 read-flat-requires : tie.Need-read-flat-requires

@@ -3,7 +3,7 @@ use mathlib.Core.Path.{ap, _∙_}
 use Prim.Native.Nat.{ℕ}
 use borrow.Author.Needs.{needs}
 use lib.ListN.{length, replicate, length-replicate}
-use Rattle.model.specs.File.{reading}
+use Rattle.model.specs.File.{reading, cellLimit}
 use Rattle.file_walk.proofs.read_flat.Statement.{statement}
 use Rattle.file_walk.proofs.read_flat.Tie as tie
 
@@ -18,7 +18,7 @@ walk-file-requires c κs =
 clear-refused-requires : tie.Need-clear-refused-requires
 clear-refused-requires c κs =
     let w = c .before .before .before .before .before .before .before .before .before in
-    w .walk-file .kept .1 .0 ∙ ap length (start w .pre .0) ∙ length-replicate {A = ℕ} 1840 0
+    w .walk-file .kept .1 .0 ∙ ap length (start w .pre .0) ∙ length-replicate {A = ℕ} cellLimit 0
 
 returns : tie.Need-returns
 returns c =

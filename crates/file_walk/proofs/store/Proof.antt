@@ -1,13 +1,14 @@
 -- `file_walk::store` meets its contract. Assumes nothing.
 use native.Mathlib.Omega.{arith}
 use borrow.Author.Needs.{needs}
+use Rattle.model.specs.Table.{sheetLimit}
 use Rattle.file_walk.proofs.CellLaws.{row-start, store-flow, store-column}
 use Prim.Native.Nat.{_+_, _*_, _<_}
 use Rattle.file_walk.proofs.store.Statement.{statement}
 use Rattle.file_walk.proofs.store.Tie as tie
 
 -- a cell of x lies in its 1,600
-low : (c : tie.Then1) → let a = c .before .args in a .word * a .n + a .position < 1600
+low : (c : tie.Then1) → let a = c .before .args in a .word * a .n + a .position < sheetLimit
 low c =
     let s = c .before in
     let p = s .pre .2 .place in

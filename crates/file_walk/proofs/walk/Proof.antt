@@ -4,6 +4,7 @@ use Prim.Native.Nat.{_-_}
 use native.Mathlib.Omega.{arith}
 use borrow.Author.Needs.{needs}
 use lib.ListN.{length}
+use Rattle.model.specs.File.{cellLimit, wordLimit}
 use Rattle.file_walk.specs.declared.Step.{Step}
 use Rattle.file_walk.specs.Steps.{Asked}
 use Rattle.file_walk.proofs.Loops.{Walking, starts, stopped, finished, goes-on}
@@ -11,7 +12,7 @@ use Rattle.file_walk.proofs.walk.Statement.{statement}
 use Rattle.file_walk.proofs.walk.Tie as tie
 
 abbrev Inv-loop : tie.InvT-loop
-Inv-loop file n cells₀ marks₀ at₀ named₀ cells marks at named = Walking file n cells marks at named × (length cells₀ ≡ 1840) × (length marks₀ ≡ 46)
+Inv-loop file n cells₀ marks₀ at₀ named₀ cells marks at named = Walking file n cells marks at named × (length cells₀ ≡ cellLimit) × (length marks₀ ≡ wordLimit)
 
 abbrev μ-loop : tie.MeasureT-loop
 μ-loop file n cells₀ marks₀ at₀ named₀ cells marks at named = length file - at

@@ -21,7 +21,7 @@ sizes q =
     size (a .n) ∷ lengths (a .n) (length (a .a .now) ∷ []) columns ∷ []
 
 abbrev amounts : tie.After-check-sizes → List Check
-amounts q = let a = entry q .args in inducedAmounts (a .n) (a .a .now) (a .m .now) (a .v .now) (a .final-demand .now)
+amounts q = let a = entry q .args in inducedAmounts (a .a .now) (a .m .now) (a .v .now) (a .final-demand .now)
 
 abbrev last : tie.After-check-sizes → List Check
 last q = productionTotal (entry q .args .n) (entry q .args .y .now) ∷ []

@@ -8,6 +8,7 @@ use borrow.Author.Needs.{needs}
 use lib.ListN.{length, set, replicate, take, drop, length-set}
 use lib.Seq.{length-take-le, take-at, length-front}
 use Rattle.model.specs.Numbers.{one, cell, at}
+use Rattle.model.specs.Table.{sectorLimit}
 use Rattle.model.specs.Rounds.{settling, settled, unit}
 use Rattle.model.specs.Checks.{demandLimit, reportRounds, verdict, output, single, settles}
 use Rattle.inverse_columns.proofs.Leontief.{unit-made, unit-small}
@@ -15,7 +16,7 @@ use Rattle.inverse_columns.proofs.one_column.Statement.{statement}
 use Rattle.inverse_columns.proofs.one_column.Tie as tie
 
 abbrev zeros : List ℕ
-zeros = replicate 40 0
+zeros = replicate sectorLimit 0
 
 -- the parts of the arrays that are lent to the rounds
 part : (s : tie.Start) → length (take (s .args .n) zeros) ≡ s .args .n

@@ -2,8 +2,9 @@
 use mathlib.Core.Path.{_≡_, ap, _∙_}
 use Prim.Native.Nat.{ℕ, _+_, _*_, _≤_, _-_}
 use native.Mathlib.Omega.{arith}
-use Rattle.model.specs.Numbers.{sum, at, oriented}
-use Rattle.inverse_ratios.specs.Columns.{columnSum, columnLimit}
+use Rattle.model.specs.Numbers.{sum, at, oriented, columnSum}
+use Rattle.model.specs.Table.{sectorLimit}
+use Rattle.inverse_ratios.specs.Columns.{inverseColumnLimit}
 use Rattle.theory.proofs.Sums.{sum-more, sum-room, sum-done}
 use Rattle.inverse_ratios.proofs.Dispersion.{cells-small}
 use Rattle.inverse_ratios.proofs.all_cells.Statement.{statement}
@@ -22,7 +23,7 @@ start p = p .before .before
 abbrev sums : tie.At-loop Inv-loop μ-loop → ℕ → ℕ
 sums p = let a = start p .args in columnSum (a .n) (oriented (a .transposed) (at (a .n) (a .sheet .now)))
 
-room : (q : tie.After-column-sum Inv-loop μ-loop) → q .before .before .loop .total + sums (q .before .before) (q .before .before .loop .j) ≤ 40 * columnLimit
+room : (q : tie.After-column-sum Inv-loop μ-loop) → q .before .before .loop .total + sums (q .before .before) (q .before .before .loop .j) ≤ sectorLimit * inverseColumnLimit
 room q =
     let p = q .before .before in
     omega (arith, sum-room (sums p) (p .loop .j) (start p .args .n) (p .loop .total) (p .loop .inv .1) (q .before .loop-test .taken), cells-small (start p .pre .1))

@@ -3,7 +3,7 @@ use mathlib.Core.Path.{_≡_, ap, _∙_}
 use Prim.Native.Nat.{ℕ, _+_, _≤_, _-_}
 use native.Mathlib.Omega.{arith}
 use Rattle.model.specs.Numbers.{sum, at, transposed, oriented}
-use Rattle.inverse_ratios.specs.Columns.{columnLimit}
+use Rattle.inverse_ratios.specs.Columns.{inverseColumnLimit}
 use Rattle.theory.proofs.Sums.{sum-more, sum-room, sum-done}
 use Rattle.inverse_ratios.proofs.Dispersion.{column-small}
 use Rattle.inverse_ratios.proofs.column_sum.Statement.{statement}
@@ -22,7 +22,7 @@ start p = p .before .before
 abbrev cells : tie.At-loop Inv-loop μ-loop → ℕ → ℕ
 cells p = let a = start p .args in transposed (oriented (a .transposed) (at (a .n) (a .sheet .now))) (a .j)
 
-room : (q : tie.After-cell-at Inv-loop μ-loop) → q .before .before .loop .sum + cells (q .before .before) (q .before .before .loop .i) ≤ columnLimit
+room : (q : tie.After-cell-at Inv-loop μ-loop) → q .before .before .loop .sum + cells (q .before .before) (q .before .before .loop .i) ≤ inverseColumnLimit
 room q =
     let p = q .before .before in
     omega (arith, sum-room (cells p) (p .loop .i) (start p .args .n) (p .loop .sum) (p .loop .inv .1) (q .before .loop-test .taken), column-small (start p .pre .1) (start p .args .j) (start p .pre .2))

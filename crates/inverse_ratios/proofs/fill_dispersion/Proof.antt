@@ -4,9 +4,10 @@ use Prim.Native.Nat.{ℕ, _*_, _/_, _≤_, _-_}
 use native.Mathlib.Nat.{mul-le-mul}
 use native.Mathlib.Omega.{arith}
 use lib.ListN.{length, length-set}
-use Rattle.model.specs.Numbers.{one, at, oriented}
+use Rattle.model.specs.Numbers.{one, at, oriented, columnSum, allCells}
+use Rattle.model.specs.Table.{sectorLimit}
 use Rattle.model.specs.Rounds.{dispersion}
-use Rattle.inverse_ratios.specs.Columns.{columnSum, allCells, columnLimit}
+use Rattle.inverse_ratios.specs.Columns.{inverseColumnLimit}
 use Rattle.theory.proofs.Lists.{Agree, agree-none, agree-set, tabulated}
 use Rattle.inverse_ratios.proofs.Dispersion.{column-small, cells-positive}
 use Rattle.inverse_ratios.proofs.fill_dispersion.Statement.{statement}
@@ -24,11 +25,11 @@ abbrev entry : tie.At-loop Inv-loop μ-loop → tie.Start Inv-loop μ-loop
 entry p = p .before .before .before .before
 
 -- the numerator of a ratio fits
-fits : (q : tie.After-column-sum Inv-loop μ-loop) → q .column-sum .result * entry (q .before .before) .args .n ≤ columnLimit * 40
+fits : (q : tie.After-column-sum Inv-loop μ-loop) → q .column-sum .result * entry (q .before .before) .args .n ≤ inverseColumnLimit * sectorLimit
 fits q =
     let p = q .before .before in
     let D = entry p .pre .1 in
-    let h : q .column-sum .result ≤ columnLimit = omega (arith, q .column-sum .ensures, column-small D (p .loop .j) (q .before .loop-test .taken)) in
+    let h : q .column-sum .result ≤ inverseColumnLimit = omega (arith, q .column-sum .ensures, column-small D (p .loop .j) (q .before .loop-test .taken)) in
     mul-le-mul h (D .few)
 
 -- and its divisor is not 0

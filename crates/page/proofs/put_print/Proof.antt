@@ -5,6 +5,7 @@ use Prim.Native.Nat.{ℕ, _-_, _≤_}
 use native.Mathlib.Omega.{arith}
 use borrow.Author.Needs.{needs}
 use lib.ListN.{take}
+use Rattle.model.specs.Table.{sectorLimit}
 use Rattle.model.specs.Page.{refusalLine, sheet}
 use Rattle.page.specs.declared.Print.{Print}
 use Rattle.page.specs.Prints.{textOf, Few}
@@ -30,7 +31,7 @@ goes-on k =
     let a = s .args in
     sheet-part (k .print2 .given .0 .0) (a .f .now) (a .y .now) (a .value .now) (a .imports .now) (k .print2 .given .0 .1 .0) ∙ sym (ap (text s) (k .print2 .given .1))
 
-few : (k : tie.After-print2) → k .print2 .given .0 .0 ≤ 40
+few : (k : tie.After-print2) → k .print2 .given .0 .0 ≤ sectorLimit
 few k = subst Few (k .print2 .given .1) (k .before .before .before .before .before .before .before .pre .0 .0)
 
 put-refusal-requires : tie.Need-put-refusal-requires

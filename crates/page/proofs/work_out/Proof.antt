@@ -4,6 +4,7 @@ use Prim.Native.Nat.{_-_, _≤_}
 use native.Mathlib.Omega.{arith}
 use borrow.Author.Needs.{needs}
 use borrow.Rule.Slice.PartMut.{postOf}
+use Rattle.model.specs.Table.{sectorLimit}
 use Rattle.model.specs.Checks.{reportRounds}
 use Rattle.model.specs.Page.{tablePage}
 use Rattle.model.specs.declared.TableRead.{TableRead}
@@ -16,7 +17,7 @@ use Rattle.page.proofs.work_out.Tie as tie
 abbrev start : tie.After-read2 → tie.Start
 start k = k .before .before .before .before .before .before .before
 
-few : (k : tie.After-read2) → k .read2 .given .0 .0 ≤ 40
+few : (k : tie.After-read2) → k .read2 .given .0 .0 ≤ sectorLimit
 few k = subst Small (k .read2 .given .1) (start k .pre .0 .0)
 
 -- a table's page is the reader's

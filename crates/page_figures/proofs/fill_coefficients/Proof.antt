@@ -3,6 +3,7 @@ use Prim.Native.Nat.{_*_, _≤_}
 use native.Mathlib.Nat.{mul-le-mul}
 use native.Mathlib.Omega.{arith}
 use borrow.Author.Needs.{needs}
+use Rattle.model.specs.Table.{sheetLimit}
 use Rattle.page_figures.proofs.Stages.{lentTable, sheets, table-cut}
 use Rattle.page_figures.proofs.fill_coefficients.Statement.{statement}
 use Rattle.page_figures.proofs.fill_coefficients.Tie as tie
@@ -10,7 +11,7 @@ use Rattle.page_figures.proofs.fill_coefficients.Tie as tie
 part-coefficients-end : tie.Need-part-coefficients-end
 part-coefficients-end c =
     let s = c .before .before .before .before .before .before in
-    let square : s .args .n * s .args .n ≤ 1600 = mul-le-mul (s .pre .0 .0) (s .pre .0 .0) in
+    let square : s .args .n * s .args .n ≤ sheetLimit = mul-le-mul (s .pre .0 .0) (s .pre .0 .0) in
     omega (arith, square, s .pre .0 .1)
 
 returns : tie.Need-returns

@@ -3,11 +3,12 @@ use Prim.Native.Nat.{_*_, _≤_}
 use native.Mathlib.Nat.{mul-le-mul}
 use native.Mathlib.Omega.{arith}
 use borrow.Author.Needs.{needs}
+use Rattle.model.specs.Table.{sheetLimit}
 use Rattle.page_figures.proofs.Stages.{part}
 use Rattle.page_figures.proofs.table_figures.Statement.{statement}
 use Rattle.page_figures.proofs.table_figures.Tie as tie
 
-square : (s : tie.Start) → s .args .n * s .args .n ≤ 1600
+square : (s : tie.Start) → s .args .n * s .args .n ≤ sheetLimit
 square s = mul-le-mul (s .pre .0 .0) (s .pre .0 .0)
 
 mul-square : tie.Need-mul-square

@@ -3,6 +3,7 @@ use mathlib.Core.Path.{_≡_, sym, ap, _∙_}
 use Prim.Native.Nat.{ℕ}
 use borrow.Author.Needs.{needs}
 use lib.ListN.{length, length-replicate, replicate, take}
+use Rattle.model.specs.Table.{sectorLimit}
 use Rattle.theory.proofs.Lists.{zeros-part}
 use Rattle.settle_loop.proofs.run_rows.Statement.{statement}
 use Rattle.settle_loop.proofs.run_rows.Tie as tie
@@ -14,8 +15,8 @@ abbrev copied : tie.After-sums → tie.After-copy-cells
 copied c = c .before .before .before .before .before
 
 -- the part of the array that is lent
-sums : (s : tie.Start) → take {A = ℕ} (s .args .n) (replicate 40 0) ≡ replicate (s .args .n) 0
-sums s = zeros-part (s .args .n) 40 (s .pre .0 .0)
+sums : (s : tie.Start) → take {A = ℕ} (s .args .n) (replicate sectorLimit 0) ≡ replicate (s .args .n) 0
+sums s = zeros-part (s .args .n) sectorLimit (s .pre .0 .0)
 
 copy-cells-requires : tie.Need-copy-cells-requires
 copy-cells-requires c κs = let s = c .before .before .before .before .before in s .pre .0 .4 ∙ sym (s .pre .0 .2)

@@ -9,7 +9,7 @@ use lib.ListN.{length, length-replicate}
 use Rattle.model.specs.Numbers.{at}
 use Rattle.model.specs.Rounds.{rounds, changes, Settles}
 use Rattle.theory.proofs.Lists.{All}
-use Rattle.theory_rounds.specs.Bounds.{Narrow}
+use Rattle.theory_rounds.specs.Bounds.{Narrow, narrowLimit}
 use Rattle.theory_rounds.specs.Rises.{Carried}
 use Rattle.theory_rounds.proofs.Rises.{carried-start}
 use Rattle.theory_rounds.proofs.Rounds.{rising-from}
@@ -115,7 +115,7 @@ loop-again c =
       turn-amounts (a .n) (coefficients p) (a .start .now) (l .done) (l .out) (l .inv .4) (l .inv .5) (q .turn .ensures .1 .1 .0),
       turn-more (a .n) (coefficients p) (a .start .now) (l .done) (l .out) (l .inv .4) (l .inv .5) (sym (ne-eqb _ 0 (c .if1 .left)) ∙ q .turn .ensures .0),
       q .turn .ensures .1 .1 .1,
-      λ t k h. lt-of-le-of-lt (q .turn .ensures .1 .0 k (subst (λ (x : ℕ). k < x) (lengths q .1 ∙ ap length (entry p .pre .0 .3) ∙ entry p .pre .0 .1) h)) (ltb-true _ 4294967296 t),
+      λ t k h. lt-of-le-of-lt (q .turn .ensures .1 .0 k (subst (λ (x : ℕ). k < x) (lengths q .1 ∙ ap length (entry p .pre .0 .3) ∙ entry p .pre .0 .1) h)) (ltb-true _ narrowLimit t),
     )
 
 returns-2 : tie.Need-returns-2 Inv-loop μ-loop

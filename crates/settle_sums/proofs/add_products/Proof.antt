@@ -5,7 +5,7 @@ use native.Mathlib.Nat.{le-refl}
 use native.Mathlib.Omega.{arith}
 use lib.ListN.{length, length-set}
 use Rattle.model.specs.Numbers.{at, cell}
-use Rattle.theory_rounds.specs.Bounds.{sumLimit}
+use Rattle.theory_rounds.specs.Bounds.{sumLimit, narrowLimit}
 use Rattle.theory_rounds.specs.Rises.{Written}
 use Rattle.theory.proofs.Sums.{cell-in}
 use Rattle.theory_rounds.proofs.Rises.{written-none, written-set}
@@ -37,7 +37,7 @@ inside q = cell-in _ _ _ (in-matrix q) (q .before .before .pre .0 .2)
 added :
     (q : tie.In-loop Inv-loop μ-loop) →
     let a = q .before .before .args in
-    at (a .n) (a .d .now) (row q) (a .j) % 4294967296 * a .rise ≡ at (a .n) (a .d .now) (row q) (a .j) * a .rise
+    at (a .n) (a .d .now) (row q) (a .j) % narrowLimit * a .rise ≡ at (a .n) (a .d .now) (row q) (a .j) * a .rise
 added q =
     let s = q .before .before in
     let a = s .args in
@@ -47,7 +47,7 @@ stands :
     (q : tie.In-loop Inv-loop μ-loop) →
     let a = q .before .before .args in
     let x = at (a .n) (a .d .now) (row q) (a .j) in
-    cell (q .before .loop .sums) (row q) + x % 4294967296 * a .rise ≡ next (q .before) (row q)
+    cell (q .before .loop .sums) (row q) + x % narrowLimit * a .rise ≡ next (q .before) (row q)
 stands q = ap₂ _+_ (q .before .loop .inv .2 .2 (row q) (le-refl _)) (added q)
 
 -- both within the limit of a sum

@@ -1,11 +1,10 @@
 -- `table_checks::check_amounts` meets its contract: each slice adds its check to those before it. Assumes nothing.
-use mathlib.Core.List.{List, [], _∷_}
+use mathlib.Core.List.{List, [], _∷_, map}
 use mathlib.Core.Path.{ap, _∙_}
 use borrow.Author.Needs.{needs}
 use lib.ListN.{length, take}
-use Rattle.model.specs.Table.{tableOf}
-use Rattle.model.specs.Checks.{Check, verdict, bounded, counted, amountLimit}
-use Rattle.theory_tables.proofs.Tables.{amounts-are}
+use Rattle.model.specs.Checks.{Check, verdict, bounded, countedOn, amountLimit}
+use Rattle.theory.proofs.Verdicts.{counted-first}
 use Rattle.table_checks.proofs.check_amounts.Statement.{statement}
 use Rattle.table_checks.proofs.check_amounts.Tie as tie
 
@@ -18,12 +17,13 @@ returns c =
     let q1 = q2 .before in
     let a = q1 .before .before .before .before .before .before .before .args in
     let columns = a .final-demand .now ∷ a .exports .now ∷ a .imports .now ∷ a .value-added .now ∷ a .production .now ∷ [] in
-    let qs = bounded 3 0 amountLimit (a .x .now) ∷ counted (length (a .x .now)) amountLimit columns in
+    let later = map (bounded 3 0 amountLimit) columns in
+    let qs = bounded 3 0 amountLimit (a .x .now) ∷ countedOn (length (a .x .now)) later in
     c .next-within5 .ensures (take 5 qs)
     (q5 .next-within4 .ensures (take 4 qs)
     (q4 .next-within3 .ensures (take 3 qs)
     (q3 .next-within2 .ensures (take 2 qs) (q2 .next-within .ensures (take 1 qs) (q1 .matrix-within .ensures)))))
-    ∙ ap (λ (ps : List Check). verdict ps []) (amounts-are (tableOf (a .n) (a .x .now) columns))
+    ∙ ap (λ (ps : List Check). verdict ps []) (counted-first amountLimit (a .x .now) later)
 
 pub check-amounts-spec : {M : Type 1} → statement M
 check-amounts-spec =

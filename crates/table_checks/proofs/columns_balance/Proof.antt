@@ -7,7 +7,7 @@ use native.Mathlib.Nat.{le-trans}
 use native.Mathlib.Omega.{arith}
 use borrow.Author.Tests.{eq-eqb, ne-eqb}
 use Rattle.model.specs.Numbers.{sum, at, cell, transposed}
-use Rattle.model.specs.Table.{Table, tableOf}
+use Rattle.model.specs.Table.{Table, tableOf, sectorLimit}
 use Rattle.model.specs.Checks.{amountLimit, columnBalances}
 use Rattle.theory.proofs.Sums.{sum-more, sum-done, cell-in}
 use Rattle.theory.proofs.Lists.{All, all-none, all-more}
@@ -47,7 +47,7 @@ term c =
     let h = cell-in (s .args .n) (c .before .loop .i) (p .scan .j) (c .loop-test .taken) (c .before .before .if1 .left) in
     (h, s .pre .1 .0 (c .before .loop .i * s .args .n + p .scan .j))
 
-fits : (c : tie.In-loop Inv-loop μ-loop Inv-scan μ-scan) → c .before .loop .i ≤ 40
+fits : (c : tie.In-loop Inv-loop μ-loop Inv-scan μ-scan) → c .before .loop .i ≤ sectorLimit
 fits c = le-trans (c .before .loop .inv .0) (c .before .before .before .before .pre .0 .0)
 
 -- at a column's end sum is the column's sum

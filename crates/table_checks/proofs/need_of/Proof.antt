@@ -4,7 +4,7 @@ use Prim.Native.Nat.{ℕ, _+_, _*_, _≤_, _-_, _<_}
 use native.Mathlib.Nat.{le-trans}
 use native.Mathlib.Omega.{arith}
 use Rattle.model.specs.Numbers.{sum, at, cell}
-use Rattle.model.specs.Table.{absorption}
+use Rattle.model.specs.Table.{absorption, sectorLimit}
 use Rattle.model.specs.Checks.{amountLimit}
 use Rattle.theory.proofs.Sums.{sum-more, sum-done, cell-in}
 use Rattle.table_checks.proofs.need_of.Statement.{statement}
@@ -31,7 +31,7 @@ term c =
 last :
     (c : tie.After-shared-slice-known2 Inv-loop μ-loop) →
     let a = c .before .before .before .args in
-    (cell (a .final-demand .now) (a .i) ≤ amountLimit) × (c .before .before .loop .j ≤ 40)
+    (cell (a .final-demand .now) (a .i) ≤ amountLimit) × (c .before .before .loop .j ≤ sectorLimit)
 last c =
     let s = c .before .before .before in
     (s .pre .1 .1 (s .args .i), le-trans (c .before .before .loop .inv .0) (s .pre .0 .0))

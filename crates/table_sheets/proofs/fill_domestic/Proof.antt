@@ -5,7 +5,7 @@ use native.Mathlib.Nat.{mul-le-mul, sub-le}
 use native.Mathlib.Omega.{arith}
 use lib.ListN.{length, length-set}
 use Rattle.model.specs.Numbers.{one, at, cell}
-use Rattle.model.specs.Table.{portion}
+use Rattle.model.specs.Table.{portion, sectorLimit}
 use Rattle.theory.proofs.Lists.{Agree, agree-none, agree-set, tabulated}
 use Rattle.theory.proofs.Matrices.{place-row, place-cell}
 use Rattle.table_sheets.proofs.fill_domestic.Statement.{statement}
@@ -24,7 +24,7 @@ entry p = p .before .before .before .before
 in-column :
     (c : tie.In-loop Inv-loop μ-loop) →
     let s = entry (c .before) in
-    (c .before .loop .k / s .args .n < s .args .n) × (s .args .n ≤ 40)
+    (c .before .loop .k / s .args .n < s .args .n) × (s .args .n ≤ sectorLimit)
 in-column c = let s = entry (c .before) in (place-row (s .args .n) (c .before .loop .k) (s .pre .0 .0) (c .loop-test .taken), s .pre .0 .1)
 
 in-slice : (c : tie.In-loop Inv-loop μ-loop) → let a = entry (c .before) .args in c .before .loop .k / a .n < length (a .m .now)

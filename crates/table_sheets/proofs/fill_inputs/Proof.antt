@@ -5,7 +5,7 @@ use native.Mathlib.Nat.{mul-le-mul}
 use native.Mathlib.Omega.{arith}
 use lib.ListN.{length, length-set}
 use Rattle.model.specs.Numbers.{at, cell}
-use Rattle.model.specs.Table.{share}
+use Rattle.model.specs.Table.{share, sectorLimit}
 use Rattle.theory.proofs.Lists.{Agree, agree-none, agree-set, tabulated}
 use Rattle.theory.proofs.Matrices.{place-column, place-cell}
 use Rattle.table_sheets.proofs.fill_inputs.Statement.{statement}
@@ -24,7 +24,7 @@ entry p = p .before .before .before .before
 in-row :
     (c : tie.After-shared-slice-known3 Inv-loop μ-loop) →
     let s = entry (c .before .before) in
-    (c .before .before .loop .k % s .args .n < s .args .n) × (s .args .n ≤ 40)
+    (c .before .before .loop .k % s .args .n < s .args .n) × (s .args .n ≤ sectorLimit)
 in-row c = let s = entry (c .before .before) in (place-column (s .args .n) (c .before .before .loop .k) (s .pre .0 .0), s .pre .0 .1)
 
 mul-cells : tie.Need-mul-cells Inv-loop μ-loop
