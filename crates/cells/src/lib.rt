@@ -1,5 +1,6 @@
 // Leaves over lent slices. `transposed` gives the direction of a matrix: along its rows, or down its columns.
 use model::Answer;
+use model::ONE;
 ghost use mathlib.Core.Path.{_≡_};
 ghost use Prim.Native.Nat.{ℕ, _*_, _^_, _<_, _≤_};
 ghost use lib.ListN.{length, replicate};
@@ -48,7 +49,7 @@ pub fn share_of(part: u64, whole: u64) -> u64
     if whole == 0 {
         return 0;
     }
-    part * 1_000_000 / whole
+    part * ONE / whole
 }
 
 // The part of an amount that a share in millionths takes, rounded down.
@@ -56,7 +57,7 @@ pub fn portion_of(m: u64, amount: u64) -> u64
     requires { ⌜ m * amount < 2 ^ 64 ⌝ }
     ensures { λ r. ⌜ r ≡ portion m amount ⌝ }
 {
-    m * amount / 1_000_000
+    m * amount / ONE
 }
 
 // The coefficient in row i and column j; of the transposed matrix the one in row j and column i.
@@ -89,7 +90,7 @@ pub fn intermediate_use(n: usize, d: &[u64], amounts: &[u64], i: usize) -> u64
     requires { ⌜ weighted n (at n (now d)) (cell (now amounts)) i ≤ sumLimit ⌝ }
     ensures { λ r. ⌜ r ≡ intermediate n (at n (now (d .entry))) (cell (now (amounts .entry))) i ⌝ }
 {
-    weighted_sum(n, d, amounts, i) / 1_000_000
+    weighted_sum(n, d, amounts, i) / ONE
 }
 
 // Writes column j of a matrix; the columns before it are kept.

@@ -1,6 +1,9 @@
 // The checks of document 01 as scans over lent slices. Each answers its number and its first failing place, or that it passes.
 use cells::intermediate_use;
 use model::Answer;
+use model::COLUMN_LIMIT;
+use model::PRODUCTION_LIMIT;
+use model::SECTORS;
 ghost use mathlib.Core.Bool.{_&&_};
 ghost use mathlib.Core.List.{List, [], _∷_, _++_};
 ghost use mathlib.Core.Path.{_≡_};
@@ -8,6 +11,7 @@ ghost use Prim.Native.Nat.{ℕ, _+_, _*_, _^_, _<_, _≤_};
 ghost use lib.Dec.{eqb, leb};
 ghost use lib.ListN.{length};
 ghost use Rattle.model.specs.Numbers.{all, at, cell};
+ghost use Rattle.model.specs.Table.{sectorLimit};
 ghost use Rattle.model.specs.Rounds.{weighted};
 ghost use Rattle.model.specs.Checks.{Check, report, verdict, bounded, size, lengths, columnSums, productionTotal, demandLeft};
 ghost use Rattle.model.specs.Calls.{matrixChecks};
@@ -16,12 +20,12 @@ ghost use Rattle.theory.specs.Slices.{Each};
 
 // Question 1: is n from 1 to 40?
 fn is_sized(n: usize) -> bool
-    ensures { λ r. ⌜ r ≡ leb 1 n && leb n 40 ⌝ }
+    ensures { λ r. ⌜ r ≡ leb 1 n && leb n sectorLimit ⌝ }
 {
     if n < 1 {
         return false;
     }
-    n <= 40
+    n <= SECTORS
 }
 
 // Is every length of a list n?
@@ -121,7 +125,7 @@ pub fn columns_within(n: usize, d: &[u64]) -> Answer
         let mut sum: u64 = 0;
         for i in 0..n {
             let coefficient = d[i * n + j];
-            if 950_000 - sum < coefficient {
+            if COLUMN_LIMIT - sum < coefficient {
                 break 'scan Answer::Refused {
                     number: 7,
                     place: j,
@@ -161,7 +165,7 @@ pub fn total_within(n: usize, y: &[u64]) -> Answer
     let mut total: u64 = 0;
     for i in 0..n {
         let amount = y[i];
-        if 1_600_000_000_000 - total < amount {
+        if PRODUCTION_LIMIT - total < amount {
             return Answer::Refused {
                 number: 8,
                 place: i,

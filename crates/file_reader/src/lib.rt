@@ -3,14 +3,24 @@ use cells::copy_cells;
 use cells::fill_zero;
 use checks::all_equal;
 use file_walk::read_flat;
+use model::CELLS;
+use model::EXPORTS;
+use model::FINAL_DEMAND;
+use model::IMPORTS;
+use model::PRODUCTION;
+use model::RISES;
+use model::SECTORS;
+use model::SHEET;
 use model::TableRead;
+use model::VALUE_ADDED;
+use model::WORDS;
 ghost use mathlib.Core.List.{List, [], _∷_};
 ghost use mathlib.Core.Path.{_≡_};
 ghost use Prim.Native.Nat.{ℕ, _+_, _≤_};
 ghost use lib.ListN.{length, replicate};
 ghost use Rattle.model.specs.Checks.{reportRead};
 ghost use Rattle.model.specs.Contracts.{Delivered, FileRead, readingInto, slicesOf};
-ghost use Rattle.model.specs.File.{Reading, fits, called, answerOf};
+ghost use Rattle.model.specs.File.{Reading, fits, called, answerOf, cellLimit};
 ghost use Rattle.file_walk.specs.Steps.{Held};
 ghost use Rattle.file_reader.specs.Reader.{Put};
 
@@ -37,33 +47,33 @@ fn deliver(
     production: &mut [u64],
     rises: &mut [u64],
 )
-    requires { ⌜ length (now cells) ≡ 1840 ⌝ }
+    requires { ⌜ length (now cells) ≡ cellLimit ⌝ }
     ensures { λ _. ⌜ ((marks s : List ℕ) (o : Reading) → o ≡ readingInto s
         (slicesOf (now (x .entry)) (now («final_demand» .entry)) (now (exports .entry)) (now (imports .entry)) (now («value_added» .entry)) (now (production .entry)) (now (rises .entry))) marks
         → Held o (now (cells .entry)) → Delivered o
         (slicesOf (now (x .entry)) (now («final_demand» .entry)) (now (exports .entry)) (now (imports .entry)) (now («value_added» .entry)) (now (production .entry)) (now (rises .entry)))
         (slicesOf (now (x .exit)) (now («final_demand» .exit)) (now (exports .exit)) (now (imports .exit)) (now («value_added» .exit)) (now (production .exit)) (now (rises .exit)))) ⌝ }
 {
-    put_part(cells, 0, 1600, x);
-    put_part(cells, 1600, 40, final_demand);
-    put_part(cells, 1640, 40, exports);
-    put_part(cells, 1680, 40, imports);
-    put_part(cells, 1720, 40, value_added);
-    put_part(cells, 1760, 40, production);
-    put_part(cells, 1800, 40, rises);
+    put_part(cells, 0, SHEET, x);
+    put_part(cells, FINAL_DEMAND, SECTORS, final_demand);
+    put_part(cells, EXPORTS, SECTORS, exports);
+    put_part(cells, IMPORTS, SECTORS, imports);
+    put_part(cells, VALUE_ADDED, SECTORS, value_added);
+    put_part(cells, PRODUCTION, SECTORS, production);
+    put_part(cells, RISES, SECTORS, rises);
 }
 
 // Question 2, by the lengths of the lent slices.
 fn is_fit(x: usize, columns: &[usize], marks: usize) -> bool
     ensures { λ r. ⌜ r ≡ fits x (now (columns .entry)) marks ⌝ }
 {
-    if 1600 != x {
+    if SHEET != x {
         return false;
     }
-    if !all_equal(40, columns) {
+    if !all_equal(SECTORS, columns) {
         return false;
     }
-    46 == marks
+    WORDS == marks
 }
 
 // Question 2, then the file into cells of 0. After a refusal they are 0; the marks are 0 in any case.
@@ -74,7 +84,7 @@ fn read_called(
     cells: &mut [u64],
     marks: &mut [u64],
 ) -> TableRead
-    requires { ⌜ now cells ≡ replicate 1840 0 ⌝ }
+    requires { ⌜ now cells ≡ replicate cellLimit 0 ⌝ }
     ensures { λ r. ⌜ (r ≡ answerOf (called x (now (columns .entry)) (length (now (marks .entry))) (now (file .entry))))
         × Held (called x (now (columns .entry)) (length (now (marks .entry))) (now (file .entry))) (now (cells .exit))
         × (now (marks .exit) ≡ replicate (length (now (marks .entry))) 0) ⌝ }
@@ -114,7 +124,7 @@ pub fn read_table(
         production.len(),
         rises.len(),
     ];
-    let mut cells = [0u64; 1840];
+    let mut cells = [0u64; CELLS];
     let answer = read_called(file, x.len(), &columns, &mut cells, marks);
     deliver(
         &cells,

@@ -9,12 +9,14 @@ use file_records::position_at;
 use file_records::record_length;
 use file_records::wide;
 use file_records::word_at;
+use model::SECTORS;
 use model::TableRead;
 ghost use mathlib.Core.List.{List, [], _∷_};
 ghost use mathlib.Core.Path.{_≡_};
 ghost use Prim.Native.Nat.{ℕ, _≤_};
 ghost use lib.ListN.{length, replicate};
-ghost use Rattle.model.specs.File.{Entry, kindAt, Reading, walk as walkFrom, reading, answerOf};
+ghost use Rattle.model.specs.Table.{sectorLimit};
+ghost use Rattle.model.specs.File.{Entry, kindAt, Reading, walk as walkFrom, reading, answerOf, cellLimit, wordLimit};
 ghost use Rattle.theory_files.specs.Files.{Within};
 ghost use Rattle.file_walk.specs.Steps.{Held, Kept, Begun, Naming, Asked, Ends, Opened};
 
@@ -49,7 +51,7 @@ fn end_at(file: &[u8], at: usize) -> Step
 
 // Questions 13 and 14 of a record that names a cell.
 fn ask_cell(file: &[u8], at: usize, n: usize, marks: &[u64]) -> Step
-    requires { ⌜ (n ≤ 40) × (length (now marks) ≡ 46) × Begun (now file) at × Naming (now file) at ⌝ }
+    requires { ⌜ (n ≤ sectorLimit) × (length (now marks) ≡ wordLimit) × Begun (now file) at × Naming (now file) at ⌝ }
     ensures { λ r. ⌜ Asked (now (file .entry)) n at (now (marks .entry)) r ⌝ }
 {
     if !is_inside(file, at, n) {
@@ -76,7 +78,7 @@ fn ask_cell(file: &[u8], at: usize, n: usize, marks: &[u64]) -> Step
 
 // The questions of the record at an offset after the first.
 fn ask(file: &[u8], at: usize, n: usize, marks: &[u64]) -> Step
-    requires { ⌜ (n ≤ 40) × (length (now marks) ≡ 46) ⌝ }
+    requires { ⌜ (n ≤ sectorLimit) × (length (now marks) ≡ wordLimit) ⌝ }
     ensures { λ r. ⌜ Asked (now (file .entry)) n at (now (marks .entry)) r ⌝ }
 {
     if file.len() <= at {
@@ -105,19 +107,19 @@ fn ask(file: &[u8], at: usize, n: usize, marks: &[u64]) -> Step
 
 // Stores an amount in the cell of a word and a position.
 fn store(cells: &mut [u64], n: usize, word: usize, position: usize, amount: u64)
-    requires { ⌜ (n ≤ 40) × (length (now cells) ≡ 1840) × Within n (record { word = word; position = position; amount = amount }) ⌝ }
+    requires { ⌜ (n ≤ sectorLimit) × (length (now cells) ≡ cellLimit) × Within n (record { word = word; position = position; amount = amount }) ⌝ }
     ensures { λ _. ⌜ ((es : List Entry) → Held (Reading.table n es) (now (cells .entry)) → Held (Reading.table n (record { word = word; position = position; amount = amount } ∷ es)) (now (cells .exit))) ⌝ }
 {
-    if word < 40 {
+    if word < SECTORS {
         cells[word * n + position] = amount;
         return;
     }
-    cells[word * 40 + position] = amount;
+    cells[word * SECTORS + position] = amount;
 }
 
 // Marks and stores a named cell.
 fn keep(n: usize, word: usize, position: usize, amount: u64, cells: &mut [u64], marks: &mut [u64])
-    requires { ⌜ (n ≤ 40) × (length (now cells) ≡ 1840) × (length (now marks) ≡ 46) × Within n (record { word = word; position = position; amount = amount }) ⌝ }
+    requires { ⌜ (n ≤ sectorLimit) × (length (now cells) ≡ cellLimit) × (length (now marks) ≡ wordLimit) × Within n (record { word = word; position = position; amount = amount }) ⌝ }
     ensures { λ _. ⌜ ((es : List Entry) → Kept n es (now (cells .entry)) (now (marks .entry)) → Kept n (record { word = word; position = position; amount = amount } ∷ es) (now (cells .exit)) (now (marks .exit))) ⌝ }
 {
     mark(marks, word, position);
@@ -126,7 +128,7 @@ fn keep(n: usize, word: usize, position: usize, amount: u64, cells: &mut [u64], 
 
 // The records after the first.
 fn walk(file: &[u8], n: usize, cells: &mut [u64], marks: &mut [u64]) -> TableRead
-    requires { ⌜ (n ≤ 40) × (2 ≤ length (now file)) × Kept n [] (now cells) (now marks) ⌝ }
+    requires { ⌜ (n ≤ sectorLimit) × (2 ≤ length (now file)) × Kept n [] (now cells) (now marks) ⌝ }
     ensures { λ r. ⌜ Ends (walkFrom (length (now (file .entry))) (now (file .entry)) n [] 2) r (now (cells .exit)) ⌝ }
 {
     let mut at: usize = 2;
@@ -179,7 +181,7 @@ fn open(file: &[u8]) -> TableRead
             place: 0,
         };
     }
-    if 40 < n {
+    if SECTORS < n {
         return TableRead::Refused {
             number: 12,
             place: 0,
@@ -193,7 +195,7 @@ fn open(file: &[u8]) -> TableRead
 
 // The whole file, into cells and marks of 0.
 fn walk_file(file: &[u8], cells: &mut [u64], marks: &mut [u64]) -> TableRead
-    requires { ⌜ (now cells ≡ replicate 1840 0) × (now marks ≡ replicate 46 0) ⌝ }
+    requires { ⌜ (now cells ≡ replicate cellLimit 0) × (now marks ≡ replicate wordLimit 0) ⌝ }
     ensures { λ r. ⌜ Ends (reading (now (file .entry))) r (now (cells .exit)) ⌝ }
 {
     let opening = open(file);
@@ -205,7 +207,7 @@ fn walk_file(file: &[u8], cells: &mut [u64], marks: &mut [u64]) -> TableRead
 
 // After a refusal the cells are 0.
 fn clear_refused(answer: TableRead, cells: &mut [u64]) -> TableRead
-    requires { ⌜ length (now cells) ≡ 1840 ⌝ }
+    requires { ⌜ length (now cells) ≡ cellLimit ⌝ }
     ensures { λ r. ⌜ ((o : Reading) → Ends o «answer» (now (cells .entry)) → (r ≡ answerOf o) × Held o (now (cells .exit))) ⌝ }
 {
     match answer {
@@ -219,8 +221,8 @@ fn clear_refused(answer: TableRead, cells: &mut [u64]) -> TableRead
 
 // The whole file, into cells of 0 and marks that hold anything.
 pub fn read_flat(file: &[u8], cells: &mut [u64], marks: &mut [u64]) -> TableRead
-    requires { ⌜ (now cells ≡ replicate 1840 0) × (length (now marks) ≡ 46) ⌝ }
-    ensures { λ r. ⌜ (r ≡ answerOf (reading (now (file .entry)))) × Held (reading (now (file .entry))) (now (cells .exit)) × (now (marks .exit) ≡ replicate 46 0) ⌝ }
+    requires { ⌜ (now cells ≡ replicate cellLimit 0) × (length (now marks) ≡ wordLimit) ⌝ }
+    ensures { λ r. ⌜ (r ≡ answerOf (reading (now (file .entry)))) × Held (reading (now (file .entry))) (now (cells .exit)) × (now (marks .exit) ≡ replicate wordLimit 0) ⌝ }
 {
     fill_zero(marks);
     let answer = walk_file(file, cells, marks);

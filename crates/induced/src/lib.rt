@@ -6,12 +6,15 @@ use checks::check_sizes;
 use checks::matrix_within;
 use checks::next_within;
 use checks::total_within;
+use model::AMOUNT_LIMIT;
 use model::Answer;
+use model::ONE;
 ghost use mathlib.Core.List.{[], _∷_, _++_};
 ghost use mathlib.Core.Path.{_≡_};
 ghost use Prim.Native.Nat.{ℕ, _*_, _<_, _≤_};
 ghost use lib.ListN.{length};
 ghost use Rattle.model.specs.Numbers.{at, cell, one, sum};
+ghost use Rattle.model.specs.Table.{sectorLimit};
 ghost use Rattle.model.specs.Rounds.{inducedImports, inducedValueAdded};
 ghost use Rattle.model.specs.Checks.{amountLimit, inducedAmounts, productionLimit, report, verdict};
 ghost use Rattle.model.specs.Calls.{inducedReport};
@@ -19,16 +22,16 @@ ghost use Rattle.model.specs.Contracts.{Induced};
 
 // Question 3: shares within one, amounts within 1,000,000,000.
 fn check_shares(n: usize, a: &[u64], m: &[u64], v: &[u64], final_demand: &[u64]) -> Answer
-    requires { ⌜ (n ≤ 40) × (length (now a) ≡ n * n) × (length (now m) ≡ n) × (length (now v) ≡ n) × (length (now «final_demand») ≡ n) ⌝ }
+    requires { ⌜ (n ≤ sectorLimit) × (length (now a) ≡ n * n) × (length (now m) ≡ n) × (length (now v) ≡ n) × (length (now «final_demand») ≡ n) ⌝ }
     ensures { λ r. ⌜ report r ≡ verdict (inducedAmounts (now (a .entry)) (now (m .entry)) (now (v .entry)) (now («final_demand» .entry))) [] ⌝ }
 {
-    let inputs = matrix_within(n, a, 1_000_000);
+    let inputs = matrix_within(n, a, ONE);
     let from_imports = a.len();
-    let imports = next_within(inputs, from_imports, 1_000_000, m);
+    let imports = next_within(inputs, from_imports, ONE, m);
     let from_values = from_imports + m.len();
-    let values = next_within(imports, from_values, 1_000_000, v);
+    let values = next_within(imports, from_values, ONE, v);
     let from_demand = from_values + v.len();
-    next_within(values, from_demand, 1_000_000_000, final_demand)
+    next_within(values, from_demand, AMOUNT_LIMIT, final_demand)
 }
 
 // Induced value added: each sector's share of its production.

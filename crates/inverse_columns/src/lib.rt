@@ -3,7 +3,9 @@ use cells::fill_zero;
 use cells::put_column;
 use checks::check_matrix;
 use model::Answer;
+use model::ONE;
 use model::Outcome;
+use model::SECTORS;
 use settle_loop::settle;
 ghost use mathlib.Core.List.{[], _∷_};
 ghost use mathlib.Core.Path.{_≡_};
@@ -22,10 +24,10 @@ fn one_column(n: usize, d: &[u64], budget: u32, j: usize, sheet: &mut [u64]) -> 
     ensures { λ r. ⌜ ((i : ℕ) → i < n → at n (now (sheet .exit)) i j ≡ cell (output (reportRounds r) n (settled n (at n (now (d .entry))) (unit n j) budget)) i) ⌝ }
     ensures { λ _. ⌜ ((i k : ℕ) → k < j → at n (now (sheet .exit)) i k ≡ at n (now (sheet .entry)) i k) ⌝ }
 {
-    let mut demand = [0u64; 40];
-    let mut amounts = [0u64; 40];
-    let mut work = [0u64; 40];
-    demand[j] = 1_000_000;
+    let mut demand = [0u64; SECTORS];
+    let mut amounts = [0u64; SECTORS];
+    let mut work = [0u64; SECTORS];
+    demand[j] = ONE;
     let outcome = settle(
         n,
         d,

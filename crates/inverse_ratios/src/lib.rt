@@ -1,5 +1,6 @@
 // The ratios of a sheet: each column sum, or each row sum, against all cells.
 use cells::cell_at;
+use model::ONE;
 ghost use mathlib.Core.Path.{_≡_};
 ghost use Prim.Native.Nat.{_*_, _<_};
 ghost use lib.ListN.{length};
@@ -38,6 +39,6 @@ pub fn fill_dispersion(n: usize, sheet: &[u64], transposed: bool, out: &mut [u64
 {
     let total = all_cells(n, sheet, transposed);
     for j in 0..n {
-        out[j] = column_sum(n, sheet, transposed, j) * (n as u64) * 1_000_000 / total;
+        out[j] = column_sum(n, sheet, transposed, j) * (n as u64) * ONE / total;
     }
 }

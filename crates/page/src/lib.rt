@@ -1,8 +1,12 @@
 // From the bytes of a table file to the printed page: read, work out, and only then print.
 use file_walk::read_flat;
+use model::CELLS;
 use model::Outcome;
+use model::PAGE;
 use model::PageWritten;
+use model::SECTORS;
 use model::TableRead;
+use model::WORDS;
 use page_figures::table_figures;
 use page_lines::put_refusal;
 use page_lines::put_sheet;
@@ -10,7 +14,9 @@ ghost use mathlib.Core.Path.{_≡_};
 ghost use Prim.Native.Nat.{_≤_};
 ghost use lib.ListN.{length, replicate};
 ghost use lib.Seq.{sets};
+ghost use Rattle.model.specs.Table.{sectorLimit};
 ghost use Rattle.model.specs.Checks.{reportPage};
+ghost use Rattle.model.specs.File.{cellLimit};
 ghost use Rattle.model.specs.Page.{page};
 ghost use Rattle.model.specs.Contracts.{PagePrinted};
 ghost use Rattle.page.specs.Prints.{pageOf, Small, textOf, Few};
@@ -30,8 +36,8 @@ fn work_out(
     value: &mut [u64],
     imports: &mut [u64],
 ) -> Print
-    requires { ⌜ Small read × (length (now cells) ≡ 1840) ⌝ }
-    requires { ⌜ (length (now f) ≡ 40) × (length (now y) ≡ 40) × (length (now value) ≡ 40) × (length (now imports) ≡ 40) ⌝ }
+    requires { ⌜ Small read × (length (now cells) ≡ cellLimit) ⌝ }
+    requires { ⌜ (length (now f) ≡ sectorLimit) × (length (now y) ≡ sectorLimit) × (length (now value) ≡ sectorLimit) × (length (now imports) ≡ sectorLimit) ⌝ }
     ensures { λ r. ⌜ Few r × (textOf r (now (f .exit)) (now (y .exit)) (now (value .exit)) (now (imports .exit)) ≡ pageOf read (now (cells .entry))) ⌝ }
 {
     match read {
@@ -62,7 +68,7 @@ fn put_print(
     imports: &[u64],
     out: &mut [u8],
 ) -> usize
-    requires { ⌜ Few print × (length (now f) ≡ 40) × (length (now y) ≡ 40) × (length (now value) ≡ 40) × (length (now imports) ≡ 40) ⌝ }
+    requires { ⌜ Few print × (length (now f) ≡ sectorLimit) × (length (now y) ≡ sectorLimit) × (length (now value) ≡ sectorLimit) × (length (now imports) ≡ sectorLimit) ⌝ }
     requires { ⌜ length (textOf print (now f) (now y) (now value) (now imports)) ≤ length (now out) ⌝ }
     ensures { λ r. ⌜ r ≡ length (textOf print (now (f .entry)) (now (y .entry)) (now (value .entry)) (now (imports .entry))) ⌝ }
     ensures { λ _. ⌜ now (out .exit) ≡ sets (now (out .entry)) 0 (textOf print (now (f .entry)) (now (y .entry)) (now (value .entry)) (now (imports .entry))) ⌝ }
@@ -87,13 +93,13 @@ fn file_page(file: &[u8], out: &mut [u8]) -> usize
     ensures { λ r. ⌜ r ≡ length (page (now (file .entry))) ⌝ }
     ensures { λ _. ⌜ now (out .exit) ≡ sets (now (out .entry)) 0 (page (now (file .entry))) ⌝ }
 {
-    let mut cells = [0u64; 1840];
-    let mut marks = [0u64; 46];
+    let mut cells = [0u64; CELLS];
+    let mut marks = [0u64; WORDS];
     let read = read_flat(file, &mut cells, &mut marks);
-    let mut f = [0u64; 40];
-    let mut y = [0u64; 40];
-    let mut value = [0u64; 40];
-    let mut imports = [0u64; 40];
+    let mut f = [0u64; SECTORS];
+    let mut y = [0u64; SECTORS];
+    let mut value = [0u64; SECTORS];
+    let mut imports = [0u64; SECTORS];
     let print = work_out(read, &cells, &mut f, &mut y, &mut value, &mut imports);
     put_print(print, &f, &y, &value, &imports, out)
 }
@@ -115,7 +121,7 @@ pub fn write_page(file: &[u8], out: &mut [u8]) -> PageWritten
     ensures { λ r. ⌜ PagePrinted (now (file .entry)) (now (out .entry)) (reportPage r) (now (out .exit)) ⌝ }
 {
     clear(out);
-    if out.len() != 2851 {
+    if out.len() != PAGE {
         return PageWritten::Refused {
             number: 2,
             place: 0,

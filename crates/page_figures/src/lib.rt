@@ -3,12 +3,22 @@
 use coefficients::coefficients;
 use induced::induced;
 use model::Answer;
+use model::BUDGET;
+use model::EXPORTS;
+use model::FINAL_DEMAND;
+use model::IMPORTS;
 use model::Outcome;
+use model::PRODUCTION;
+use model::SECTORS;
+use model::SHEET;
+use model::VALUE_ADDED;
 use production::production;
 ghost use mathlib.Core.Path.{_≡_};
 ghost use Prim.Native.Nat.{_≤_, _*_};
 ghost use lib.ListN.{length};
+ghost use Rattle.model.specs.Table.{sectorLimit};
 ghost use Rattle.model.specs.Checks.{report, reportRounds};
+ghost use Rattle.model.specs.File.{cellLimit};
 ghost use Rattle.page_figures.specs.Stages.{tableIn, Sheets, Induced, Produced, Figures};
 
 // The sheets of the table of n sectors that lies in the cells.
@@ -21,7 +31,7 @@ fn fill_coefficients(
     d: &mut [u64],
     f: &mut [u64],
 ) -> Answer
-    requires { ⌜ (n ≤ 40) × (length (now cells) ≡ 1840) ⌝ }
+    requires { ⌜ (n ≤ sectorLimit) × (length (now cells) ≡ cellLimit) ⌝ }
     requires { ⌜ (length (now a) ≡ n * n) × (length (now v) ≡ n) × (length (now m) ≡ n) × (length (now d) ≡ n * n) × (length (now f) ≡ n) ⌝ }
     ensures { λ r. ⌜ Sheets (tableIn n (now (cells .entry))) (report r) (now (a .exit)) (now (v .exit)) (now (m .exit)) (now (d .exit)) (now (f .exit)) ⌝ }
 {
@@ -29,11 +39,11 @@ fn fill_coefficients(
     coefficients(
         n,
         &cells[0..square],
-        &cells[1600..1600 + n],
-        &cells[1640..1640 + n],
-        &cells[1680..1680 + n],
-        &cells[1720..1720 + n],
-        &cells[1760..1760 + n],
+        &cells[FINAL_DEMAND..FINAL_DEMAND + n],
+        &cells[EXPORTS..EXPORTS + n],
+        &cells[IMPORTS..IMPORTS + n],
+        &cells[VALUE_ADDED..VALUE_ADDED + n],
+        &cells[PRODUCTION..PRODUCTION + n],
         a,
         v,
         m,
@@ -77,11 +87,11 @@ fn fill_produced(
     value: &mut [u64],
     imports: &mut [u64],
 ) -> Outcome
-    requires { ⌜ (n ≤ 40) × (length (now y) ≡ n) × (length (now value) ≡ n) × (length (now imports) ≡ n) ⌝ }
+    requires { ⌜ (n ≤ sectorLimit) × (length (now y) ≡ n) × (length (now value) ≡ n) × (length (now imports) ≡ n) ⌝ }
     ensures { λ r. ⌜ Produced n (now (a .entry)) (now (m .entry)) (now (v .entry)) (now («final_demand» .entry)) (now (d .entry)) (now (f .entry)) (reportRounds r) (now (y .exit)) (now (value .exit)) (now (imports .exit)) ⌝ }
 {
-    let mut work = [0u64; 40];
-    let outcome = production(n, d, f, 1400, y, &mut work[0..n]);
+    let mut work = [0u64; SECTORS];
+    let outcome = production(n, d, f, BUDGET, y, &mut work[0..n]);
     match outcome {
         Outcome::Refused { number, place } => Outcome::Refused { number, place },
         Outcome::Settled { rounds } => {
@@ -103,7 +113,7 @@ fn fill_figures(
     value: &mut [u64],
     imports: &mut [u64],
 ) -> Outcome
-    requires { ⌜ (n ≤ 40) × (length (now cells) ≡ 1840) ⌝ }
+    requires { ⌜ (n ≤ sectorLimit) × (length (now cells) ≡ cellLimit) ⌝ }
     requires { ⌜ (length (now a) ≡ n * n) × (length (now v) ≡ n) × (length (now m) ≡ n) × (length (now d) ≡ n * n) × (length (now f) ≡ n) ⌝ }
     requires { ⌜ (length (now y) ≡ n) × (length (now value) ≡ n) × (length (now imports) ≡ n) ⌝ }
     ensures { λ r. ⌜ Figures (tableIn n (now (cells .entry))) (reportRounds r) (now (f .exit)) (now (y .exit)) (now (value .exit)) (now (imports .exit)) ⌝ }
@@ -116,7 +126,7 @@ fn fill_figures(
             a,
             m,
             v,
-            &cells[1600..1600 + n],
+            &cells[FINAL_DEMAND..FINAL_DEMAND + n],
             d,
             f,
             y,
@@ -136,15 +146,15 @@ pub fn table_figures(
     value: &mut [u64],
     imports: &mut [u64],
 ) -> Outcome
-    requires { ⌜ (n ≤ 40) × (length (now cells) ≡ 1840) ⌝ }
+    requires { ⌜ (n ≤ sectorLimit) × (length (now cells) ≡ cellLimit) ⌝ }
     requires { ⌜ (length (now f) ≡ n) × (length (now y) ≡ n) × (length (now value) ≡ n) × (length (now imports) ≡ n) ⌝ }
     ensures { λ r. ⌜ Figures (tableIn n (now (cells .entry))) (reportRounds r) (now (f .exit)) (now (y .exit)) (now (value .exit)) (now (imports .exit)) ⌝ }
 {
     let square = n * n;
-    let mut a = [0u64; 1600];
-    let mut v = [0u64; 40];
-    let mut m = [0u64; 40];
-    let mut d = [0u64; 1600];
+    let mut a = [0u64; SHEET];
+    let mut v = [0u64; SECTORS];
+    let mut m = [0u64; SECTORS];
+    let mut d = [0u64; SHEET];
     fill_figures(
         n,
         cells,

@@ -3,7 +3,9 @@ use cells::fill_zero;
 use checks::cells_within;
 use checks::check_domestic;
 use model::Answer;
+use model::DEMAND_LIMIT;
 use model::Outcome;
+use model::RISE_LIMIT;
 use settle_loop::settle;
 ghost use mathlib.Core.List.{[], _∷_, _++_};
 ghost use mathlib.Core.Path.{_≡_};
@@ -72,7 +74,7 @@ pub fn production(
 ) -> Outcome
     ensures { λ r. ⌜ Produced n (now (d .entry)) (now (f .entry)) budget (now (out .entry)) (now (work .entry)) (reportRounds r) (now (out .exit)) (now (work .exit)) ⌝ }
 {
-    solve(n, d, false, 2_000_000_000, f, budget, out, work)
+    solve(n, d, false, DEMAND_LIMIT, f, budget, out, work)
 }
 
 // Price rises from direct rises, in millionths. What it promises is `Priced`.
@@ -86,5 +88,5 @@ pub fn price(
 ) -> Outcome
     ensures { λ r. ⌜ Priced n (now (d .entry)) (now (w .entry)) budget (now (out .entry)) (now (work .entry)) (reportRounds r) (now (out .exit)) (now (work .exit)) ⌝ }
 {
-    solve(n, d, true, 1_000_000_000, w, budget, out, work)
+    solve(n, d, true, RISE_LIMIT, w, budget, out, work)
 }

@@ -2,6 +2,7 @@
 // that decide every input's page, so that a longer input needs no more of it.
 use libc::STDIN_FILENO;
 use libc::STDOUT_FILENO;
+use model::PAGE;
 use model::PageWritten;
 use page::write_page;
 ghost use lib.ListN.{length};
@@ -41,7 +42,7 @@ fn print(bytes: &[u8]) {
 
 // Writes the page of a table file to standard output. The buffer has the length that the page call asks for.
 pub fn print_page(file: &[u8]) {
-    let mut out = [0u8; 2851];
+    let mut out = [0u8; PAGE];
     let answer = write_page(file, &mut out);
     match answer {
         PageWritten::Refused {

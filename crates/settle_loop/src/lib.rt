@@ -3,12 +3,16 @@ use cells::copy_cells;
 use cells::fill_zero;
 use cells::transpose;
 use model::Outcome;
+use model::SECTORS;
+use model::SHEET;
 use settle_round::turn;
+use settle_sums::NARROW;
 ghost use mathlib.Core.List.{[], _∷_};
 ghost use mathlib.Core.Path.{_≡_};
 ghost use Prim.Native.Nat.{ℕ, _*_, _<_, _≤_};
 ghost use lib.ListN.{length, replicate};
 ghost use Rattle.model.specs.Numbers.{at, cell, oriented, transposed};
+ghost use Rattle.model.specs.Table.{sectorLimit};
 ghost use Rattle.model.specs.Rounds.{settled, settling};
 ghost use Rattle.model.specs.Checks.{reportRounds, verdict, output, single, settles, demandLimit};
 ghost use Rattle.model.specs.Promises.{AcceptedMatrix};
@@ -40,7 +44,7 @@ fn run_turns(
         if moved == 0 {
             return Outcome::Settled { rounds: count };
         }
-        narrow = moved < 4_294_967_296;
+        narrow = moved < NARROW;
         done = count;
     }
     Outcome::Refused {
@@ -58,12 +62,12 @@ fn run_rows(
     out: &mut [u64],
     work: &mut [u64],
 ) -> Outcome
-    requires { ⌜ (n ≤ 40) × (length (now d) ≡ n * n) × (length (now start) ≡ n) × (now out ≡ now start) × (length (now work) ≡ n) ⌝ }
+    requires { ⌜ (n ≤ sectorLimit) × (length (now d) ≡ n * n) × (length (now start) ≡ n) × (now out ≡ now start) × (length (now work) ≡ n) ⌝ }
     requires { ⌜ ((i : ℕ) → i < n → cell (now start) i ≤ demandLimit) ⌝ }
     requires { ⌜ Narrow (now d) × RoundsFit n (at n (now d)) (now start) ⌝ }
     ensures { λ r. ⌜ Searched n (at n (now (d .entry))) (now (start .entry)) budget (reportRounds r) (now (out .exit)) ⌝ }
 {
-    let mut sums = [0u64; 40];
+    let mut sums = [0u64; SECTORS];
     copy_cells(start, work);
     run_turns(n, d, start, budget, out, work, &mut sums[..n])
 }
@@ -81,7 +85,7 @@ fn run_columns(
     requires { ⌜ ((i : ℕ) → i < n → cell (now start) i ≤ demandLimit) ⌝ }
     ensures { λ r. ⌜ Searched n (transposed (at n (now (d .entry)))) (now (start .entry)) budget (reportRounds r) (now (out .exit)) ⌝ }
 {
-    let mut rows = [0u64; 1600];
+    let mut rows = [0u64; SHEET];
     let cells = n * n;
     transpose(n, d, &mut rows[..cells]);
     run_rows(n, &rows[..cells], start, budget, out, work)

@@ -1,4 +1,5 @@
 // One round of a settling loop, over lent slices.
+use model::ONE;
 use settle_sums::add_rises;
 ghost use mathlib.Core.Bool.{true};
 ghost use mathlib.Core.Path.{_≡_};
@@ -23,7 +24,7 @@ fn advance(n: usize, start: &[u64], sums: &[u64], out: &mut [u64], rises: &mut [
 {
     let mut moved: u64 = 0;
     for i in 0..n {
-        let amount = start[i] + sums[i] / 1_000_000;
+        let amount = start[i] + sums[i] / ONE;
         let rise = amount - out[i];
         moved |= rise;
         rises[i] = rise;

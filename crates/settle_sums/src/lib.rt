@@ -8,13 +8,16 @@ ghost use Rattle.model.specs.Numbers.{at, cell, tabulate};
 ghost use Rattle.theory_rounds.specs.Bounds.{sumLimit, Narrow, narrowLimit};
 ghost use Rattle.theory_rounds.specs.Rises.{raised, Written};
 
+// Cells below this are narrow (`narrowLimit`): their product is one multiplication of 32 bits.
+pub const NARROW: u64 = 1 << 32;
+
 // The same rise; where rises are narrow the compiler is told so.
 fn narrowed(narrow: bool, rise: u64) -> u64
     requires { ⌜ (narrow ≡ true → rise < narrowLimit) ⌝ }
     ensures { λ r. ⌜ r ≡ rise ⌝ }
 {
     if narrow {
-        return rise % 4_294_967_296;
+        return rise % NARROW;
     }
     rise
 }
@@ -27,7 +30,7 @@ fn add_products(n: usize, d: &[u64], j: usize, rise: u64, i: usize, sums: &mut [
     ensures { λ _. ⌜ Written (now (sums .exit)) i 4 (λ c. cell (now (sums .entry)) c + at n (now (d .entry)) c j * rise) (now (sums .entry)) ⌝ }
 {
     for k in 0..4 {
-        sums[i + k] += d[(i + k) * n + j] % 4_294_967_296 * rise;
+        sums[i + k] += d[(i + k) * n + j] % NARROW * rise;
     }
 }
 

@@ -2,23 +2,24 @@
 use checks::check_sizes;
 use checks::matrix_within;
 use checks::next_within;
+use model::AMOUNT_LIMIT;
 use model::Answer;
 ghost use mathlib.Core.List.{List, [], _∷_, _++_};
 ghost use mathlib.Core.Path.{_≡_};
-ghost use Prim.Native.Nat.{ℕ, _*_, _<_, _≤_};
+ghost use Prim.Native.Nat.{ℕ, _+_, _*_, _<_, _≤_};
 ghost use lib.ListN.{length};
 ghost use Rattle.model.specs.Numbers.{cell};
-ghost use Rattle.model.specs.Table.{absorption, tableOf};
+ghost use Rattle.model.specs.Table.{absorption, tableOf, sectorLimit};
 ghost use Rattle.model.specs.Checks.{amountLimit, balanceChecks, columnBalances, importsCovered, lengths, report, rowBalances, size, tableAmounts, verdict};
 ghost use Rattle.theory.specs.Slices.{Columns, Each};
 ghost use Rattle.theory_tables.specs.Tables.{TableAmounts, TableSizes};
 
 // Domestic need of sector i: what all sectors buy of it, and final demand.
 pub fn need_of(n: usize, x: &[u64], final_demand: &[u64], i: usize) -> u64
-    requires { ⌜ (n ≤ 40) × (i < n) × (length (now x) ≡ n * n) × (length (now «final_demand») ≡ n) ⌝ }
+    requires { ⌜ (n ≤ sectorLimit) × (i < n) × (length (now x) ≡ n * n) × (length (now «final_demand») ≡ n) ⌝ }
     requires { ⌜ ((k : ℕ) → cell (now x) k ≤ amountLimit) ⌝ }
     requires { ⌜ ((k : ℕ) → cell (now «final_demand») k ≤ amountLimit) ⌝ }
-    ensures { λ r. ⌜ (r ≡ absorption n (now (x .entry)) (now («final_demand» .entry)) i) × (r ≤ 41000000000) ⌝ }
+    ensures { λ r. ⌜ (r ≡ absorption n (now (x .entry)) (now («final_demand» .entry)) i) × (r ≤ (sectorLimit + 1) * amountLimit) ⌝ }
 {
     let mut sum: u64 = 0;
     for j in 0..n {
@@ -40,7 +41,7 @@ pub fn check_amounts(
     requires { ⌜ length (now x) ≡ n * n ⌝ }
     ensures { λ r. ⌜ report r ≡ verdict (tableAmounts (tableOf n (now (x .entry)) (now («final_demand» .entry) ∷ now (exports .entry) ∷ now (imports .entry) ∷ now («value_added» .entry) ∷ now (production .entry) ∷ []))) [] ⌝ }
 {
-    let limit = 1_000_000_000;
+    let limit = AMOUNT_LIMIT;
     let flows = matrix_within(n, x, limit);
     let from_demand = x.len();
     let demands = next_within(flows, from_demand, limit, final_demand);
@@ -56,7 +57,7 @@ pub fn check_amounts(
 
 // Question 4: does every column balance? The column is left at its end.
 fn columns_balance(n: usize, x: &[u64], value_added: &[u64], production: &[u64]) -> Answer
-    requires { ⌜ (n ≤ 40) × (length (now x) ≡ n * n) × (length (now «value_added») ≡ n) × (length (now production) ≡ n) ⌝ }
+    requires { ⌜ (n ≤ sectorLimit) × (length (now x) ≡ n * n) × (length (now «value_added») ≡ n) × (length (now production) ≡ n) ⌝ }
     requires { ⌜ ((k : ℕ) → cell (now x) k ≤ amountLimit) ⌝ }
     requires { ⌜ ((k : ℕ) → cell (now «value_added») k ≤ amountLimit) ⌝ }
     ensures { λ r. ⌜ report r ≡ verdict (columnBalances (tableOf n (now (x .entry)) ([] ∷ [] ∷ [] ∷ now («value_added» .entry) ∷ now (production .entry) ∷ [])) ∷ []) [] ⌝ }
@@ -89,7 +90,7 @@ fn rows_balance(
     imports: &[u64],
     production: &[u64],
 ) -> Answer
-    requires { ⌜ (n ≤ 40) × (length (now x) ≡ n * n) × (length (now «final_demand») ≡ n) × (length (now exports) ≡ n) × (length (now imports) ≡ n) × (length (now production) ≡ n) ⌝ }
+    requires { ⌜ (n ≤ sectorLimit) × (length (now x) ≡ n * n) × (length (now «final_demand») ≡ n) × (length (now exports) ≡ n) × (length (now imports) ≡ n) × (length (now production) ≡ n) ⌝ }
     requires { ⌜ ((k : ℕ) → cell (now x) k ≤ amountLimit) ⌝ }
     requires { ⌜ ((k : ℕ) → cell (now «final_demand») k ≤ amountLimit) ⌝ }
     requires { ⌜ ((k : ℕ) → (cell (now exports) k ≤ amountLimit) × (cell (now imports) k ≤ amountLimit) × (cell (now production) k ≤ amountLimit)) ⌝ }
@@ -109,7 +110,7 @@ fn rows_balance(
 
 // Question 6: are a sector's imports at most its domestic need?
 fn imports_covered(n: usize, x: &[u64], final_demand: &[u64], imports: &[u64]) -> Answer
-    requires { ⌜ (n ≤ 40) × (length (now x) ≡ n * n) × (length (now «final_demand») ≡ n) × (length (now imports) ≡ n) ⌝ }
+    requires { ⌜ (n ≤ sectorLimit) × (length (now x) ≡ n * n) × (length (now «final_demand») ≡ n) × (length (now imports) ≡ n) ⌝ }
     requires { ⌜ ((k : ℕ) → cell (now x) k ≤ amountLimit) ⌝ }
     requires { ⌜ ((k : ℕ) → cell (now «final_demand») k ≤ amountLimit) ⌝ }
     ensures { λ r. ⌜ report r ≡ verdict (importsCovered (tableOf n (now (x .entry)) (now («final_demand» .entry) ∷ [] ∷ now (imports .entry) ∷ [])) ∷ []) [] ⌝ }

@@ -3,18 +3,19 @@ use cells::portion_of;
 use cells::share_of;
 use checks::columns_within;
 use model::Answer;
+use model::ONE;
 use table_checks::need_of;
 ghost use mathlib.Core.List.{[], _∷_};
 ghost use mathlib.Core.Path.{_≡_};
 ghost use Prim.Native.Nat.{ℕ, _+_, _*_, _-_, _<_, _≤_};
 ghost use lib.ListN.{length};
 ghost use Rattle.model.specs.Numbers.{at, cell, matrix, one, tabulate};
-ghost use Rattle.model.specs.Table.{absorption, portion, share};
+ghost use Rattle.model.specs.Table.{absorption, portion, share, sectorLimit};
 ghost use Rattle.model.specs.Checks.{amountLimit, columnSums, report, verdict};
 
 // Shares of the columns of x: each flow's part of the production of the sector that buys.
 pub fn fill_inputs(n: usize, x: &[u64], production: &[u64], a: &mut [u64])
-    requires { ⌜ (1 ≤ n) × (n ≤ 40) × (length (now x) ≡ n * n) × (length (now production) ≡ n) × (length (now a) ≡ n * n) ⌝ }
+    requires { ⌜ (1 ≤ n) × (n ≤ sectorLimit) × (length (now x) ≡ n * n) × (length (now production) ≡ n) × (length (now a) ≡ n * n) ⌝ }
     requires { ⌜ ((k : ℕ) → cell (now x) k ≤ amountLimit) ⌝ }
     ensures { λ _. ⌜ now (a .exit) ≡ matrix n (λ i j. share (at n (now (x .entry)) i j) (cell (now (production .entry)) j)) ⌝ }
 {
@@ -37,7 +38,7 @@ pub fn fill_shares(n: usize, part: &[u64], whole: &[u64], out: &mut [u64])
 
 // Import shares: imports of the domestic need.
 pub fn fill_import_shares(n: usize, x: &[u64], final_demand: &[u64], imports: &[u64], m: &mut [u64])
-    requires { ⌜ (n ≤ 40) × (length (now x) ≡ n * n) × (length (now «final_demand») ≡ n) × (length (now imports) ≡ n) × (length (now m) ≡ n) ⌝ }
+    requires { ⌜ (n ≤ sectorLimit) × (length (now x) ≡ n * n) × (length (now «final_demand») ≡ n) × (length (now imports) ≡ n) × (length (now m) ≡ n) ⌝ }
     requires { ⌜ ((k : ℕ) → cell (now x) k ≤ amountLimit) ⌝ }
     requires { ⌜ ((k : ℕ) → cell (now «final_demand») k ≤ amountLimit) ⌝ }
     requires { ⌜ ((k : ℕ) → cell (now imports) k ≤ amountLimit) ⌝ }
@@ -51,14 +52,14 @@ pub fn fill_import_shares(n: usize, x: &[u64], final_demand: &[u64], imports: &[
 
 // Domestic coefficients: what is not imported of each input coefficient.
 fn fill_domestic(n: usize, a: &[u64], m: &[u64], d: &mut [u64])
-    requires { ⌜ (1 ≤ n) × (n ≤ 40) × (length (now a) ≡ n * n) × (length (now m) ≡ n) × (length (now d) ≡ n * n) ⌝ }
+    requires { ⌜ (1 ≤ n) × (n ≤ sectorLimit) × (length (now a) ≡ n * n) × (length (now m) ≡ n) × (length (now d) ≡ n * n) ⌝ }
     requires { ⌜ ((k : ℕ) → k < n * n → cell (now a) k ≤ one) ⌝ }
     requires { ⌜ ((k : ℕ) → k < n → cell (now m) k ≤ one) ⌝ }
     ensures { λ _. ⌜ now (d .exit) ≡ matrix n (λ i j. portion (one - cell (now (m .entry)) i) (at n (now (a .entry)) i j)) ⌝ }
 {
     let cells = n * n;
     for k in 0..cells {
-        d[k] = portion_of(1_000_000 - m[k / n], a[k]);
+        d[k] = portion_of(ONE - m[k / n], a[k]);
     }
 }
 
@@ -70,7 +71,7 @@ fn fill_demand(n: usize, m: &[u64], final_demand: &[u64], exports: &[u64], f: &m
     ensures { λ _. ⌜ now (f .exit) ≡ tabulate n (λ i. portion (one - cell (now (m .entry)) i) (cell (now («final_demand» .entry)) i) + cell (now (exports .entry)) i) ⌝ }
 {
     for i in 0..n {
-        let domestic = portion_of(1_000_000 - m[i], final_demand[i]);
+        let domestic = portion_of(ONE - m[i], final_demand[i]);
         f[i] = domestic + exports[i];
     }
 }
@@ -85,7 +86,7 @@ pub fn finish(
     d: &mut [u64],
     f: &mut [u64],
 ) -> Answer
-    requires { ⌜ (1 ≤ n) × (n ≤ 40) × (length (now a) ≡ n * n) × (length (now m) ≡ n) × (length (now «final_demand») ≡ n) × (length (now exports) ≡ n) × (length (now d) ≡ n * n) × (length (now f) ≡ n) ⌝ }
+    requires { ⌜ (1 ≤ n) × (n ≤ sectorLimit) × (length (now a) ≡ n * n) × (length (now m) ≡ n) × (length (now «final_demand») ≡ n) × (length (now exports) ≡ n) × (length (now d) ≡ n * n) × (length (now f) ≡ n) ⌝ }
     requires { ⌜ ((k : ℕ) → k < n * n → cell (now a) k ≤ one) ⌝ }
     requires { ⌜ ((k : ℕ) → k < n → cell (now m) k ≤ one) ⌝ }
     requires { ⌜ ((k : ℕ) → (cell (now «final_demand») k ≤ amountLimit) × (cell (now exports) k ≤ amountLimit)) ⌝ }
