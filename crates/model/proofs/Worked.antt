@@ -70,20 +70,17 @@ module _ (n : ℕ) (d : List ℕ) where
   abbrev pub rightSide : List ℕ → ℕ → List ℕ → List ℕ
   rightSide s q b = tabulate n (λ i. one * q * cell s i + weighted n (at n d) (cell b) i)
 
-infix 68 _⊳_ _⊢_ _⊣_
+infix 68 _⊳_ _leaving_
 abbrev _⊳_ : Result → Result → Row
 g ⊳ s = record { given = g; stated = s }
 
--- an acceptance with these counts, and a refusal
-abbrev _⊢_ : List ℕ → List (List ℕ) → Result
-ks ⊢ cells = record { said = accepts ks; outputs = cells }
-
-abbrev _⊣_ : Report → List (List ℕ) → Result
-r ⊣ cells = record { said = r; outputs = cells }
+-- a report, and what the call leaves in its output slices
+abbrev _leaving_ : Report → List (List ℕ) → Result
+r leaving cells = record { said = r; outputs = cells }
 
 -- 1 × b is an exact balance of the start s: its two sides are equal
 abbrev balance : ℕ → List ℕ → List ℕ → List ℕ → Row
-balance n d s b = ([] ⊢ (leftSide n d b ∷ [])) ⊳ ([] ⊢ (rightSide n d s 1 b ∷ []))
+balance n d s b = (accepts [] leaving (leftSide n d b ∷ [])) ⊳ (accepts [] leaving (rightSide n d s 1 b ∷ []))
 
 -- ---- the worked table
 abbrev table : Table
@@ -104,28 +101,28 @@ unfoldable pub rows : List Row
 rows =
     -- P1: accepted, with a, v, m, d and f
     coefficientsOf table
-    ⊳ ([] ⊢ ((100000 ∷ 200000 ∷ 300000 ∷ 300000 ∷ []) ∷ (600000 ∷ 500000 ∷ []) ∷ (250000 ∷ 200000 ∷ []) ∷ d ∷ f ∷ []))
+    ⊳ (accepts [] leaving ((100000 ∷ 200000 ∷ 300000 ∷ 300000 ∷ []) ∷ (600000 ∷ 500000 ∷ []) ∷ (250000 ∷ 200000 ∷ []) ∷ d ∷ f ∷ []))
     -- P2, at the least budget and at the largest, and its exact balance; P3
-    ∷ productionOf 2 d f 9 ⊳ ((9 ∷ []) ⊢ ((999 ∷ 1999 ∷ []) ∷ []))
-    ∷ productionOf 2 d f 4294967295 ⊳ ((9 ∷ []) ⊢ ((999 ∷ 1999 ∷ []) ∷ []))
+    ∷ productionOf 2 d f 9 ⊳ (accepts (9 ∷ []) leaving ((999 ∷ 1999 ∷ []) ∷ []))
+    ∷ productionOf 2 d f 4294967295 ⊳ (accepts (9 ∷ []) leaving ((999 ∷ 1999 ∷ []) ∷ []))
     ∷ balance 2 d f (1000 ∷ 2000 ∷ [])
-    ∷ productionOf 2 d f 8 ⊳ (refuses 1 9 0 ⊣ ((0 ∷ 0 ∷ []) ∷ []))
+    ∷ productionOf 2 d f 8 ⊳ (refuses 1 9 0 leaving ((0 ∷ 0 ∷ []) ∷ []))
     -- P4 to P6
-    ∷ impliedOf 2 d (999 ∷ 1999 ∷ []) ⊳ ([] ⊢ (f ∷ []))
-    ∷ impliedOf 2 d (1000 ∷ 2000 ∷ []) ⊳ ([] ⊢ (f ∷ []))
-    ∷ impliedOf 2 d (0 ∷ 1000 ∷ []) ⊳ (refuses 0 10 0 ⊣ ((0 ∷ 0 ∷ []) ∷ []))
+    ∷ impliedOf 2 d (999 ∷ 1999 ∷ []) ⊳ (accepts [] leaving (f ∷ []))
+    ∷ impliedOf 2 d (1000 ∷ 2000 ∷ []) ⊳ (accepts [] leaving (f ∷ []))
+    ∷ impliedOf 2 d (0 ∷ 1000 ∷ []) ⊳ (refuses 0 10 0 leaving ((0 ∷ 0 ∷ []) ∷ []))
     -- P7
-    ∷ priceOf 2 d (10000 ∷ 0 ∷ []) 4294967295 ⊳ ((10 ∷ []) ⊢ ((11393 ∷ 2248 ∷ []) ∷ []))
+    ∷ priceOf 2 d (10000 ∷ 0 ∷ []) 4294967295 ⊳ (accepts (10 ∷ []) leaving ((11393 ∷ 2248 ∷ []) ∷ []))
     -- P8 and its exact balance; P9; P10
-    ∷ productionOf 1 (950000 ∷ []) (1 ∷ []) 4294967295 ⊳ ((1 ∷ []) ⊢ ((1 ∷ []) ∷ []))
+    ∷ productionOf 1 (950000 ∷ []) (1 ∷ []) 4294967295 ⊳ (accepts (1 ∷ []) leaving ((1 ∷ []) ∷ []))
     ∷ balance 1 (950000 ∷ []) (1 ∷ []) (20 ∷ [])
-    ∷ productionOf 1 (950001 ∷ []) (1 ∷ []) 4294967295 ⊳ (refuses 1 7 0 ⊣ ((0 ∷ []) ∷ []))
-    ∷ productionOf 2 d (0 ∷ 0 ∷ []) 4294967295 ⊳ ((1 ∷ []) ⊢ ((0 ∷ 0 ∷ []) ∷ []))
+    ∷ productionOf 1 (950001 ∷ []) (1 ∷ []) 4294967295 ⊳ (refuses 1 7 0 leaving ((0 ∷ []) ∷ []))
+    ∷ productionOf 2 d (0 ∷ 0 ∷ []) 4294967295 ⊳ (accepts (1 ∷ []) leaving ((0 ∷ 0 ∷ []) ∷ []))
     -- P11
-    ∷ productionOf 0 [] [] 4294967295 ⊳ (refuses 1 1 0 ⊣ ([] ∷ []))
-    ∷ productionOf 41 [] [] 4294967295 ⊳ (refuses 1 1 0 ⊣ (tabulate 41 (λ _. 0) ∷ []))
+    ∷ productionOf 0 [] [] 4294967295 ⊳ (refuses 1 1 0 leaving ([] ∷ []))
+    ∷ productionOf 41 [] [] 4294967295 ⊳ (refuses 1 1 0 leaving (tabulate 41 (λ _. 0) ∷ []))
     -- P12: the inverse cell, its influence and its sensitivity
-    ∷ inverseOf 1 (500000 ∷ []) 4294967295 ⊳ ((21 ∷ []) ⊢ ((1999999 ∷ []) ∷ (1000000 ∷ []) ∷ (1000000 ∷ []) ∷ []))
+    ∷ inverseOf 1 (500000 ∷ []) 4294967295 ⊳ (accepts (21 ∷ []) leaving ((1999999 ∷ []) ∷ (1000000 ∷ []) ∷ (1000000 ∷ []) ∷ []))
     ∷ []
 
 pub worked : map (λ (r : Row). r .given) rows ≡ map (λ (r : Row). r .stated) rows

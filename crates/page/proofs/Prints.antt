@@ -4,12 +4,12 @@ use mathlib.Core.List.{List, [], _∷_, _++_}
 use Prim.Native.Nat.{ℕ, _-_, _*_, _≤_, _<_}
 use native.Mathlib.Nat.{mul-le-mul}
 use native.Mathlib.Omega.{arith}
-use lib.Dec.{lit≤, lit<}
+use lib.Dec.{lit<}
 use lib.ListN.{length, take, drop, replicate}
 use lib.Seq.{sets, take-at, take-take}
 use Rattle.model.specs.Table.{Table, sectorLimit, sheetLimit}
 use Rattle.model.specs.Checks.{Report, accepts, refuses}
-use Rattle.model.specs.File.{Entry, Reading, reading, flowsOf, columnOf, answerOf, wordLimit}
+use Rattle.model.specs.File.{Entry, Reading, reading, flowsOf, columnOf, answerOf, columnKinds, columnWord}
 use Rattle.model.specs.Contracts.{PagePrinted}
 use Rattle.model.specs.Figures.{figuresReport}
 use Rattle.model.specs.Page.{refusalLine, sheet, tableRead, tablePage, readingPage, page, pageLimit, pageReport}
@@ -18,7 +18,7 @@ use Rattle.theory_files.specs.Files.{inputLimit}
 use Rattle.theory_pages.proofs.Pages.{written, unwritten}
 use Rattle.theory_files.proofs.Readings.{Answered, reading-answered}
 use Rattle.file_walk.specs.Steps.{Held}
-use Rattle.page_figures.specs.Stages.{tableIn, Figures}
+use Rattle.page_figures.specs.Stages.{columnStart, tableIn, Figures}
 use Rattle.page_figures.proofs.Stages.{part}
 use Rattle.page.specs.Prints.{pageOf, Small}
 
@@ -76,13 +76,15 @@ read-small s e = subst Small (sym e) (answer-small (reading s) inputLimit (readi
 -- the table that lies in the cells is the one that the file names
 table-held : (n : ℕ) (es : List Entry) (cells : List ℕ) → n ≤ sectorLimit → Held (Reading.table n es) cells → tableIn n cells ≡ tableRead n es
 table-held n es cells few h =
-    rw (flows, column sectorLimit (lit≤ tt) (lit< tt), column 41 (lit≤ tt) (lit< tt), column 42 (lit≤ tt) (lit< tt), column 43 (lit≤ tt) (lit< tt), column 44 (lit≤ tt) (lit< tt)) refl
+    rw (flows, column 0 (lit< tt), column 1 (lit< tt), column 2 (lit< tt), column 3 (lit< tt), column 4 (lit< tt)) refl
   where
     flows : take (n * n) cells ≡ take (n * n) (flowsOf n es)
     flows = sym (take-take (n * n) sheetLimit cells (mul-le-mul few few)) ∙ ap (λ (l : List ℕ). take (n * n) l) (h .flows)
 
-    column : (c : ℕ) → sectorLimit ≤ c → c < wordLimit → take n (drop (c * sectorLimit) cells) ≡ take n (columnOf c es)
-    column c low high = sym (take-take n sectorLimit (drop (c * sectorLimit) cells) few) ∙ ap (λ (l : List ℕ). take n l) (h .columns c low high)
+    column : (c : ℕ) → c < length columnKinds → take n (drop (columnStart c) cells) ≡ take n (columnOf (columnWord c) es)
+    column c few-columns =
+        sym (take-take n sectorLimit (drop (columnStart c) cells) few)
+        ∙ ap (λ (l : List ℕ). take n l) (h .columns (columnWord c) (omega arith) (omega arith))
 
 answer-page : (o : Reading) (most : ℕ) (cells : List ℕ) → Answered most o → Held o cells → pageOf (answerOf o) cells ≡ readingPage o
 answer-page (Reading.refused q p) most cells a h = refl

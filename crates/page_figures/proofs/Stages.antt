@@ -1,19 +1,19 @@
 -- What each stage owes, from what the call of its name ensures. Assumes nothing.
 use mathlib.Core.Bool.{Bool, true, false, cond, false≢true}
 use mathlib.Core.Path.{_≡_, refl, sym, ap, subst, _∙_}
-use mathlib.Core.List.{List, [], _∷_}
+use mathlib.Core.List.{List, [], _∷_, map}
 use Prim.Native.Nat.{ℕ, _+_, _-_, _*_, _≤_}
 use native.Mathlib.Omega.{arith}
 use lib.ListN.{length, take, drop, replicate}
 use lib.Seq.{length-take-le}
 use Rattle.model.specs.Numbers.{at}
-use Rattle.model.specs.Table.{Table, tableOf, finalDemand, sheetLimit}
+use Rattle.model.specs.Table.{Table, tableOf, finalDemand}
 use Rattle.model.specs.Rounds.{settled, inducedValueAdded, inducedImports}
 use Rattle.model.specs.Checks.{Report, accepts, refuses, output}
 use Rattle.model.specs.Calls.{coefficientsReport, inputCoefficients, valueAddedCoefficients, importCoefficients, domesticCoefficients, domesticDemands, productionReport, inducedReport}
 use Rattle.model.specs.Contracts.{Derived}
 use Rattle.model.specs.Figures.{pageBudget, figuresReport}
-use Rattle.page_figures.specs.Stages.{tableIn, sheetsReport, Sheets, Induced, Produced, Figures}
+use Rattle.page_figures.specs.Stages.{columnStart, tableIn, sheetsReport, Sheets, Induced, Produced, Figures}
 
 -- the first n cells of an array
 pub part : (n : ℕ) (l : List ℕ) → n ≤ length l → length (take (n - 0) l) ≡ n
@@ -49,21 +49,24 @@ module _ (t : Table) where
 part-cut : (k n : ℕ) (cells : List ℕ) → take (k + n - k) (drop k cells) ≡ take n (drop k cells)
 part-cut k n cells = let e : k + n - k ≡ n = omega arith in ap (λ (j : ℕ). take j (drop k cells)) e
 
-pub demand-cut : (n : ℕ) (cells : List ℕ) → take (sheetLimit + n - sheetLimit) (drop sheetLimit cells) ≡ finalDemand (tableIn n cells)
-demand-cut n cells = part-cut sheetLimit n cells
+pub demand-cut : (n : ℕ) (cells : List ℕ) → take (columnStart 0 + n - columnStart 0) (drop (columnStart 0) cells) ≡ finalDemand (tableIn n cells)
+demand-cut n cells = part-cut (columnStart 0) n cells
+
+abbrev lentColumn : ℕ → List ℕ → ℕ → List ℕ
+lentColumn n cells c = take (columnStart c + n - columnStart c) (drop (columnStart c) cells)
 
 abbrev pub lentTable : ℕ → List ℕ → Table
-lentTable n cells =
-    tableOf n (take (n * n - 0) cells)
-    (take (sheetLimit + n - sheetLimit) (drop sheetLimit cells) ∷ take (1640 + n - 1640) (drop 1640 cells) ∷ take (1680 + n - 1680) (drop 1680 cells)
-    ∷ take (1720 + n - 1720) (drop 1720 cells) ∷ take (1760 + n - 1760) (drop 1760 cells) ∷ [])
+lentTable n cells = tableOf n (take (n * n - 0) cells) (map (lentColumn n cells) (0 ∷ 1 ∷ 2 ∷ 3 ∷ 4 ∷ []))
 
 pub table-cut : (n : ℕ) (cells : List ℕ) {r : Report} {a v m d f : List ℕ} → Sheets (lentTable n cells) r a v m d f → Sheets (tableIn n cells) r a v m d f
 table-cut n cells {r} {a} {v} {m} {d} {f} w =
     let square : n * n - 0 ≡ n * n = omega arith in
     let same : lentTable n cells ≡ tableIn n cells =
-    rw (square, part-cut sheetLimit n cells, part-cut 1640 n cells, part-cut 1680 n cells, part-cut 1720 n cells, part-cut 1760 n cells) refl in
+    rw (square, cut 0, cut 1, cut 2, cut 3, cut 4) refl in
     subst (λ (t : Table). Sheets t r a v m d f) same w
+  where
+    cut : (c : ℕ) → lentColumn n cells c ≡ take n (drop (columnStart c) cells)
+    cut c = part-cut (columnStart c) n cells
 
 -- ---- third call: what a production induces
 module _ (n : ℕ) (a m v F y : List ℕ) (k : ℕ) {b c : ℕ} (long : b ≡ n) (long′ : c ≡ n) where

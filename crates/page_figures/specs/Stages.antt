@@ -1,23 +1,23 @@
 -- What the stages from a table to the figures of its sheet owe each other: a report, and where it accepts what the slices hold.
 use mathlib.Core.Bool.{true}
-use mathlib.Core.List.{List, [], _∷_}
+use mathlib.Core.List.{List, [], _∷_, map}
 use mathlib.Core.Path.{_≡_}
 use Prim.Native.Nat.{ℕ, _*_}
 use lib.ListN.{take, drop}
-use Rattle.model.specs.Numbers.{at}
-use Rattle.model.specs.Table.{Table, tableOf, sheetLimit}
+use Rattle.model.specs.Numbers.{Cells, at}
+use Rattle.model.specs.Table.{Table, tableOf, sectorLimit}
 use Rattle.model.specs.Rounds.{settled, inducedValueAdded, inducedImports}
 use Rattle.model.specs.Checks.{Report, roundsOf}
 use Rattle.model.specs.Calls.{coefficientsReport, inputCoefficients, valueAddedCoefficients, importCoefficients, domesticCoefficients, domesticDemands, productionReport, inducedReport}
+use Rattle.model.specs.File.{columnWord}
 use Rattle.model.specs.Figures.{pageBudget, firstRefusal, figuresProduction, figuresValue, figuresImports, figuresReport}
 
--- the table of n sectors that lies in one list: x row by row, and a column every 40 cells from cell 1,600 on
-abbrev pub columnIn : ℕ → List ℕ → ℕ → List ℕ
-columnIn n cells from = take n (drop from cells)
+-- the table of n sectors that lies in one list: x row by row from its start, and each column where its word's 40 cells start
+abbrev pub columnStart : ℕ → ℕ
+columnStart c = columnWord c * sectorLimit
 
-abbrev pub tableIn : ℕ → List ℕ → Table
-tableIn n cells =
-    tableOf n (take (n * n) cells) (columnIn n cells sheetLimit ∷ columnIn n cells 1640 ∷ columnIn n cells 1680 ∷ columnIn n cells 1720 ∷ columnIn n cells 1760 ∷ [])
+abbrev pub tableIn : ℕ → Cells → Table
+tableIn n cells = tableOf n (take (n * n) cells) (map (λ (c : ℕ). take n (drop (columnStart c) cells)) (0 ∷ 1 ∷ 2 ∷ 3 ∷ 4 ∷ []))
 
 -- first the sheets of a table
 abbrev pub sheetsReport : Table → Report

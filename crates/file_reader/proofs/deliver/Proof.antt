@@ -2,7 +2,7 @@
 use native.Mathlib.Omega.{arith}
 use borrow.Author.Needs.{needs}
 use lib.Dec.{lit≤, lit<}
-use Rattle.model.specs.Table.{sectorLimit}
+use Rattle.model.specs.File.{columnWord}
 use Rattle.file_reader.proofs.Delivery.{fit-or-not, either, put-flows, put-column}
 use Rattle.file_reader.proofs.deliver.Statement.{statement}
 use Rattle.file_reader.proofs.deliver.Tie as tie
@@ -42,12 +42,12 @@ returns c =
     let d = fit-or-not _ _ _ _ _ _ _ _ s o e in
     record {
       flows = put-flows o _ h _ _ (either (λ f. f .flows) d) (c1 .put-part .ensures);
-      finalDemand = put-column o _ h sectorLimit (lit≤ tt) (lit< tt) _ _ (either (λ f. f .finalDemand) d) (c2 .put-part2 .ensures);
-      exports = put-column o _ h 41 (lit≤ tt) (lit< tt) _ _ (either (λ f. f .exports) d) (c3 .put-part3 .ensures);
-      imports = put-column o _ h 42 (lit≤ tt) (lit< tt) _ _ (either (λ f. f .imports) d) (c4 .put-part4 .ensures);
-      valueAdded = put-column o _ h 43 (lit≤ tt) (lit< tt) _ _ (either (λ f. f .valueAdded) d) (c5 .put-part5 .ensures);
-      production = put-column o _ h 44 (lit≤ tt) (lit< tt) _ _ (either (λ f. f .production) d) (c6 .put-part6 .ensures);
-      rises = put-column o _ h 45 (lit≤ tt) (lit< tt) _ _ (either (λ f. f .rises) d) (c7 .put-part7 .ensures);
+      finalDemand = put-column o _ h (columnWord 0) (lit≤ tt) (lit< tt) _ _ (either (λ f. f .finalDemand) d) (c2 .put-part2 .ensures);
+      exports = put-column o _ h (columnWord 1) (lit≤ tt) (lit< tt) _ _ (either (λ f. f .exports) d) (c3 .put-part3 .ensures);
+      imports = put-column o _ h (columnWord 2) (lit≤ tt) (lit< tt) _ _ (either (λ f. f .imports) d) (c4 .put-part4 .ensures);
+      valueAdded = put-column o _ h (columnWord 3) (lit≤ tt) (lit< tt) _ _ (either (λ f. f .valueAdded) d) (c5 .put-part5 .ensures);
+      production = put-column o _ h (columnWord 4) (lit≤ tt) (lit< tt) _ _ (either (λ f. f .production) d) (c6 .put-part6 .ensures);
+      rises = put-column o _ h (columnWord 5) (lit≤ tt) (lit< tt) _ _ (either (λ f. f .rises) d) (c7 .put-part7 .ensures);
     }
 
 pub deliver-spec : {M : Type 1} → statement M
