@@ -1,9 +1,7 @@
 // From a table to the figures of its printed sheet: its sheets, production, induced amounts. The table lies in one slice of 1,840 cells, as the
 // walk over a table file leaves it: x row by row from cell 0 on, and a column every 40 cells from cell 1,600 on. No text here.
 use coefficients::coefficients;
-use induced::induced;
 use model::Answer;
-use model::BUDGET;
 use model::EXPORTS;
 use model::FINAL_DEMAND;
 use model::IMPORTS;
@@ -12,14 +10,14 @@ use model::PRODUCTION;
 use model::SECTORS;
 use model::SHEET;
 use model::VALUE_ADDED;
-use production::production;
+use page_production::fill_produced;
 ghost use mathlib.Core.Path.{_≡_};
 ghost use Prim.Native.Nat.{_≤_, _*_};
 ghost use lib.ListN.{length};
 ghost use Rattle.model.specs.Table.{sectorLimit};
 ghost use Rattle.model.specs.Checks.{report, reportRounds};
 ghost use Rattle.model.specs.File.{cellLimit};
-ghost use Rattle.page_figures.specs.Stages.{tableIn, Sheets, Induced, Produced, Figures};
+ghost use Rattle.page_figures.specs.Stages.{tableIn, Sheets, Figures};
 
 // The sheets of the table of n sectors that lies in the cells.
 fn fill_coefficients(
@@ -50,54 +48,6 @@ fn fill_coefficients(
         d,
         f,
     )
-}
-
-// What a production that took some rounds induces.
-fn fill_induced(
-    n: usize,
-    a: &[u64],
-    m: &[u64],
-    v: &[u64],
-    final_demand: &[u64],
-    y: &[u64],
-    rounds: u32,
-    value: &mut [u64],
-    imports: &mut [u64],
-) -> Outcome
-    requires { ⌜ (length (now value) ≡ n) × (length (now imports) ≡ n) ⌝ }
-    ensures { λ r. ⌜ Induced n (now (a .entry)) (now (m .entry)) (now (v .entry)) (now («final_demand» .entry)) (now (y .entry)) rounds (reportRounds r) (now (value .exit)) (now (imports .exit)) ⌝ }
-{
-    let answer = induced(n, a, m, v, final_demand, y, value, imports);
-    match answer {
-        Answer::Refused { number, place } => Outcome::Refused { number, place },
-        Answer::Accepted => Outcome::Settled { rounds },
-    }
-}
-
-// Production of a demand for domestic goods, and what it induces.
-fn fill_produced(
-    n: usize,
-    a: &[u64],
-    m: &[u64],
-    v: &[u64],
-    final_demand: &[u64],
-    d: &[u64],
-    f: &[u64],
-    y: &mut [u64],
-    value: &mut [u64],
-    imports: &mut [u64],
-) -> Outcome
-    requires { ⌜ (n ≤ sectorLimit) × (length (now y) ≡ n) × (length (now value) ≡ n) × (length (now imports) ≡ n) ⌝ }
-    ensures { λ r. ⌜ Produced n (now (a .entry)) (now (m .entry)) (now (v .entry)) (now («final_demand» .entry)) (now (d .entry)) (now (f .entry)) (reportRounds r) (now (y .exit)) (now (value .exit)) (now (imports .exit)) ⌝ }
-{
-    let mut work = [0u64; SECTORS];
-    let outcome = production(n, d, f, BUDGET, y, &mut work[0..n]);
-    match outcome {
-        Outcome::Refused { number, place } => Outcome::Refused { number, place },
-        Outcome::Settled { rounds } => {
-            fill_induced(n, a, m, v, final_demand, y, rounds, value, imports)
-        }
-    }
 }
 
 // The figures of a table, over slices for its sheets.

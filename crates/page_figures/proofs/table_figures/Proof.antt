@@ -4,7 +4,7 @@ use native.Mathlib.Nat.{mul-le-mul}
 use native.Mathlib.Omega.{arith}
 use borrow.Author.Needs.{needs}
 use Rattle.model.specs.Table.{sheetLimit}
-use Rattle.page_figures.proofs.Stages.{part}
+use Rattle.page_production.proofs.Stages.{part}
 use Rattle.page_figures.proofs.table_figures.Statement.{statement}
 use Rattle.page_figures.proofs.table_figures.Tie as tie
 

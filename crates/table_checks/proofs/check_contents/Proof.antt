@@ -1,5 +1,5 @@
 -- `table_checks::check_contents` meets its contract: each way out has its law. Assumes nothing.
-use mathlib.Core.List.{List, [], _∷_}
+use mathlib.Core.List.{[], _∷_}
 use mathlib.Core.Path.{_∙_}
 use borrow.Author.Needs.{needs}
 use Rattle.model.specs.Table.{Table, tableOf}

@@ -1,10 +1,10 @@
--- `page_figures::fill_produced` meets its contract. Assumes nothing.
+-- `page_production::fill_produced` meets its contract. Assumes nothing.
 use mathlib.Core.Path.{ap}
 use borrow.Author.Needs.{needs}
 use Rattle.model.specs.Checks.{reportRounds}
-use Rattle.page_figures.proofs.Stages.{part, production-stop, production-on}
-use Rattle.page_figures.proofs.fill_produced.Statement.{statement}
-use Rattle.page_figures.proofs.fill_produced.Tie as tie
+use Rattle.page_production.proofs.Stages.{part, production-stop, production-on}
+use Rattle.page_production.proofs.fill_produced.Statement.{statement}
+use Rattle.page_production.proofs.fill_produced.Tie as tie
 
 returns : tie.Need-returns
 returns c =

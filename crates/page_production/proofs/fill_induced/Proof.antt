@@ -1,10 +1,10 @@
--- `page_figures::fill_induced` meets its contract. Assumes nothing.
+-- `page_production::fill_induced` meets its contract. Assumes nothing.
 use mathlib.Core.Path.{ap}
 use borrow.Author.Needs.{needs}
 use Rattle.model.specs.Checks.{report}
-use Rattle.page_figures.proofs.Stages.{induced-stop, induced-on}
-use Rattle.page_figures.proofs.fill_induced.Statement.{statement}
-use Rattle.page_figures.proofs.fill_induced.Tie as tie
+use Rattle.page_production.proofs.Stages.{induced-stop, induced-on}
+use Rattle.page_production.proofs.fill_induced.Statement.{statement}
+use Rattle.page_production.proofs.fill_induced.Tie as tie
 
 returns : tie.Need-returns
 returns c =

@@ -1,0 +1,2 @@
+-- These stages at the way out of each call.
+pub mod Stages
