@@ -4,15 +4,16 @@
  * Each function does what the library's call of the same name does, and is proved to (crates/c_sheets, crates/c_tables, crates/c_files).
  * Link with libtawqeshim.so or with libtawqeshim.a, which scripts/shared-library builds. Both are for x86-64 Linux.
  *
- * A table has n sectors, 1 to 40, counted from 0. Matrices have n * n cells, row by row: the cell of row i and column j is cell i * n + j.
- * Amounts are whole numbers of one money unit. Shares and coefficients are whole millionths: "one" is 1,000,000. Quotients are rounded down.
+ * A table has n sectors, 1 to 40, counted from 0. Matrices have n * n cells, row by row: the cell of row i and column j is cell i * n +
+ * j. Amounts are whole numbers of one money unit. Shares and coefficients are whole millionths: "one" is 1,000,000. Quotients are rounded
+ * down.
  *
- * Arrays. Each array is a pointer, then its length in cells (of `file` and a page, in bytes). Any lengths, cells, n and budget may be handed
- * over; a wrong length is refused with number 2.
+ * Arrays. Each array is a pointer, then its length in cells (of `file` and a page, in bytes). Any lengths, cells, n and budget may be
+ * handed over; a wrong length is refused with number 2.
  *
  * Answers. `*number` is 0 if the call was accepted, and only then; `*place` is then 0. Otherwise `*number` is that of the first question
- * answered no, `*place` says where, and every count is 0. Questions are asked in the order that a function states; they are listed below, at
- * enum tawqeshim_number. Places of questions without one are 0.
+ * answered no, `*place` says where, and every count is 0. Questions are asked in the order that a function states; they are listed below,
+ * at enum tawqeshim_number. Places of questions without one are 0.
  *
  * The caller's duties, which no function can ask about:
  *   - no pointer is NULL, also where its length is 0; each is aligned for its type;
@@ -20,9 +21,9 @@
  *   - what is not const, arrays and numbers alike, overlaps nothing else that is handed to the same call;
  *   - during a call no other thread writes what is handed to it, or reads what is not const.
  *
- * Why no NULL with length 0: an array reaches the proved code as a slice, which is a pointer and a count. In the machine that the proofs speak
- * of a pointer is a place in some block of memory, and there is no NULL; the language has nothing to compare a pointer with. So nothing is
- * proved of a call with NULL. For an empty file hand over the address of any byte, with length 0.
+ * Why no NULL with length 0: an array reaches the proved code as a slice, which is a pointer and a count. In the machine that the proofs
+ * speak of a pointer is a place in some block of memory, and there is no NULL; the language has nothing to compare a pointer with. So
+ * nothing is proved of a call with NULL. For an empty file hand over the address of any byte, with length 0.
  *
  * No function allocates, keeps anything between calls, or writes to what is const. Whatever outputs, work and numbers held before is
  * overwritten. Several threads may call at once.
@@ -278,8 +279,8 @@ void tawqeshim_read_table(
  * rounds allowed, and induced value added and imports, a line a sector; or the one line `refused`, a number and a place.
  *
  * Asks 2: out has exactly TAWQESHIM_PAGE (2,851) bytes, which hold every page.
- * Gives in *length how many bytes the page has, and in out the page from the start; every byte after it is 0. A page of `refused` is a page:
- * its number and place stand in its text, and *number is 0.
+ * Gives in *length how many bytes the page has, and in out the page from the start; every byte after it is 0. A page of `refused` is a
+ * page: its number and place stand in its text, and *number is 0.
  * A refusal sets every byte of out to 0.
  */
 void tawqeshim_page(
@@ -309,7 +310,8 @@ static inline void tawqeshim_table_sheets(
     size_t n, const struct tawqeshim_table *table, const struct tawqeshim_sheets *sheets, uint8_t *number, size_t *place) {
     tawqeshim_coefficients(
         n, table->flows, n * n, table->final_demand, n, table->exports, n, table->imports, n, table->value_added, n, table->production, n,
-        sheets->inputs, n * n, sheets->value_shares, n, sheets->import_shares, n, sheets->domestic, n * n, sheets->demand, n, number, place);
+        sheets->inputs, n * n, sheets->value_shares, n, sheets->import_shares, n, sheets->domestic, n * n, sheets->demand, n,
+        number, place);
 }
 
 /* tawqeshim_induced: what a production induces by the inputs, import_shares and value_shares of sheets, which are only read. */

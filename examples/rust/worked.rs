@@ -49,8 +49,8 @@ fn main() {
 
     let (mut a, mut d) = ([0; N * N], [0; N * N]);
     let (mut v, mut m, mut f) = ([0; N], [0; N], [0; N]);
-    // Every pointer is of a live array of the stated length, and no array that is written is handed over twice. `coefficients` has v before m,
-    // `induced` below m before v.
+    // Every pointer is of a live array of the stated length, and no array that is written is handed over twice. `coefficients` has v
+    // before m, `induced` below has m before v.
     unsafe {
         tawqeshim_coefficients(
             N, x.as_ptr(), N * N, final_demand.as_ptr(), N, exports.as_ptr(), N, imports.as_ptr(), N,
