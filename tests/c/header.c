@@ -177,6 +177,12 @@ static void by_names(void) {
     tawqeshim_sheets_induced(2, &sheets, columns_of[0], settled, value, imports, &number, &place);
     answers(TAWQESHIM_ACCEPTED, 0, "the worked production");
     expect(value[0] == 599 && value[1] == 999 && imports[0] == 249 && imports[1] == 359, "the worked table's induced amounts");
+
+    size_t start, length;
+    tawqeshim_row(2, flows, 4, 1, &start, &length);
+    expect(start == 2 && length == 2, "a row");
+    tawqeshim_row(2, flows, 4, 2, &start, &length);
+    expect(start == 0 && length == 0, "a row that there is not");
 }
 
 int main(void) {
