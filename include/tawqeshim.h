@@ -64,40 +64,40 @@ extern const char tawqeshim_version[];
 /* The rounds that a page allows. */
 #define TAWQESHIM_PAGE_BUDGET UINT32_C(1400)
 
-/* The numbers of the questions, as `*number` tells them, and where a refusal's `*place` is. */
+/* What `*number` tells: that the call was accepted, or which question was answered no. Before each stands what it asks, and its `*place`. */
 enum tawqeshim_number {
     TAWQESHIM_ACCEPTED = 0,
     /* n is from 1 to 40 */
-    TAWQESHIM_NO_SIZE = 1,
+    TAWQESHIM_REFUSED_SIZE = 1,
     /* every array has its exact length, outputs and work included */
-    TAWQESHIM_NO_LENGTH = 2,
+    TAWQESHIM_REFUSED_LENGTH = 2,
     /* every amount is within 1,000,000,000, and every share within one. Place: the first cell over, counted on through the arrays */
-    TAWQESHIM_NO_AMOUNT = 3,
+    TAWQESHIM_REFUSED_AMOUNT = 3,
     /* every column balances: purchases and value added are production. Place: the first column that does not */
-    TAWQESHIM_NO_COLUMN_BALANCE = 4,
+    TAWQESHIM_REFUSED_COLUMN_BALANCE = 4,
     /* every row balances: sales, final demand and exports are production and imports. Place: the first row that does not */
-    TAWQESHIM_NO_ROW_BALANCE = 5,
+    TAWQESHIM_REFUSED_ROW_BALANCE = 5,
     /* a sector's imports are at most its sales and final demand. Place: the first sector over */
-    TAWQESHIM_NO_IMPORTS = 6,
+    TAWQESHIM_REFUSED_IMPORTS = 6,
     /* every column sum of domestic coefficients is at most 950,000. Place: the first column over */
-    TAWQESHIM_NO_COLUMN_SUM = 7,
+    TAWQESHIM_REFUSED_COLUMN_SUM = 7,
     /* every demand is at most 2,000,000,000, every direct rise at most 1,000,000,000, and a given production totals at most
        1,600,000,000,000. Place: the first sector over, or at which the running total is */
-    TAWQESHIM_NO_START = 8,
+    TAWQESHIM_REFUSED_LIMIT = 8,
     /* the rounds settle within the budget. Place: 0; of the inverse, the first column that does not settle */
-    TAWQESHIM_NO_SETTLING = 9,
+    TAWQESHIM_REFUSED_ROUNDS = 9,
     /* a given production leaves every sector's demand at 0 or above. Place: the first sector short */
-    TAWQESHIM_NO_DEMAND = 10,
+    TAWQESHIM_REFUSED_SHORTAGE = 10,
     /* a record's kind is 1 to 9, and its body is whole. Place of 11 to 14: the offset of the record's kind byte */
-    TAWQESHIM_NO_RECORD = 11,
+    TAWQESHIM_REFUSED_RECORD = 11,
     /* the first record is kind 1 with n from 1 to 40, and no later record is kind 1 */
-    TAWQESHIM_NO_FIRST_RECORD = 12,
+    TAWQESHIM_REFUSED_FIRST_RECORD = 12,
     /* every sector byte is from 1 to n */
-    TAWQESHIM_NO_SECTOR = 13,
+    TAWQESHIM_REFUSED_SECTOR = 13,
     /* the cell is named for the first time */
-    TAWQESHIM_NO_FIRST_NAMING = 14,
+    TAWQESHIM_REFUSED_SECOND_NAMING = 14,
     /* kind 8 comes, with no byte after it. Place: the file's length if no end came, otherwise the offset after the end */
-    TAWQESHIM_NO_END = 15,
+    TAWQESHIM_REFUSED_END = 15,
     /* the last number */
     TAWQESHIM_QUESTIONS = 15
 };

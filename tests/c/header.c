@@ -37,9 +37,9 @@ static void questions(void) {
         for (int other = 1; other < k; other++)
             expect(strcmp(text, tawqeshim_question((uint8_t)other)) != 0, "two questions have one text");
     }
-    expect(TAWQESHIM_NO_END == TAWQESHIM_QUESTIONS, "the last question is not the last number");
-    expect(strcmp(tawqeshim_question(TAWQESHIM_NO_SETTLING), "do the rounds settle within the budget?") == 0, "the text of question 9");
-    expect(strcmp(tawqeshim_question(TAWQESHIM_NO_END), "does kind 8 come, with no byte after it?") == 0, "the text of question 15");
+    expect(TAWQESHIM_REFUSED_END == TAWQESHIM_QUESTIONS, "the last question is not the last number");
+    expect(strcmp(tawqeshim_question(TAWQESHIM_REFUSED_ROUNDS), "do the rounds settle within the budget?") == 0, "the text of question 9");
+    expect(strcmp(tawqeshim_question(TAWQESHIM_REFUSED_END), "does kind 8 come, with no byte after it?") == 0, "the text of question 15");
 }
 
 /* One sector, whose coefficient, demand and rise may be at a limit or one over it. */
@@ -67,25 +67,25 @@ static void limits(void) {
     produce(TAWQESHIM_COLUMN_LIMIT, 1);
     answers(TAWQESHIM_ACCEPTED, 0, "a column sum at its limit");
     produce(TAWQESHIM_COLUMN_LIMIT + 1, 1);
-    answers(TAWQESHIM_NO_COLUMN_SUM, 0, "a column sum over its limit");
+    answers(TAWQESHIM_REFUSED_COLUMN_SUM, 0, "a column sum over its limit");
     produce(0, TAWQESHIM_DEMAND_LIMIT);
     answers(TAWQESHIM_ACCEPTED, 0, "a demand at its limit");
     produce(0, TAWQESHIM_DEMAND_LIMIT + 1);
-    answers(TAWQESHIM_NO_START, 0, "a demand over its limit");
+    answers(TAWQESHIM_REFUSED_LIMIT, 0, "a demand over its limit");
     rise(TAWQESHIM_RISE_LIMIT);
     answers(TAWQESHIM_ACCEPTED, 0, "a rise at its limit");
     rise(TAWQESHIM_RISE_LIMIT + 1);
-    answers(TAWQESHIM_NO_START, 0, "a rise over its limit");
+    answers(TAWQESHIM_REFUSED_LIMIT, 0, "a rise over its limit");
     imply(TAWQESHIM_PRODUCTION_LIMIT);
     answers(TAWQESHIM_ACCEPTED, 0, "a production at its limit");
     imply(TAWQESHIM_PRODUCTION_LIMIT + 1);
-    answers(TAWQESHIM_NO_START, 0, "a production over its limit");
+    answers(TAWQESHIM_REFUSED_LIMIT, 0, "a production over its limit");
     induce(TAWQESHIM_SHARE_LIMIT, TAWQESHIM_AMOUNT_LIMIT);
     answers(TAWQESHIM_ACCEPTED, 0, "a share and an amount at their limits");
     induce(TAWQESHIM_ONE + 1, 0);
-    answers(TAWQESHIM_NO_AMOUNT, 1, "a share over its limit");
+    answers(TAWQESHIM_REFUSED_AMOUNT, 1, "a share over its limit");
     induce(0, TAWQESHIM_AMOUNT_LIMIT + 1);
-    answers(TAWQESHIM_NO_AMOUNT, 3, "an amount over its limit");
+    answers(TAWQESHIM_REFUSED_AMOUNT, 3, "an amount over its limit");
 }
 
 static uint64_t sheet[TAWQESHIM_CELLS + 1], inverse[TAWQESHIM_CELLS + 1];
@@ -129,7 +129,7 @@ static void sizes(void) {
     invert(TAWQESHIM_SECTORS);
     answers(TAWQESHIM_ACCEPTED, 0, "the most sectors");
     invert(TAWQESHIM_SECTORS + 1);
-    answers(TAWQESHIM_NO_SIZE, 0, "a sector more than the most");
+    answers(TAWQESHIM_REFUSED_SIZE, 0, "a sector more than the most");
     expect(TAWQESHIM_CELLS == TAWQESHIM_SECTORS * TAWQESHIM_SECTORS, "the cells of the most sectors");
 
     size_t length = longest_file();
@@ -137,18 +137,18 @@ static void sizes(void) {
     read_file(length, TAWQESHIM_CELLS, TAWQESHIM_SECTORS, TAWQESHIM_MARKS);
     answers(TAWQESHIM_ACCEPTED, 0, "the longest file");
     read_file(length, TAWQESHIM_CELLS + 1, TAWQESHIM_SECTORS, TAWQESHIM_MARKS);
-    answers(TAWQESHIM_NO_LENGTH, 0, "a cell of x more");
+    answers(TAWQESHIM_REFUSED_LENGTH, 0, "a cell of x more");
     read_file(length, TAWQESHIM_CELLS, TAWQESHIM_SECTORS + 1, TAWQESHIM_MARKS);
-    answers(TAWQESHIM_NO_LENGTH, 0, "a cell of each column more");
+    answers(TAWQESHIM_REFUSED_LENGTH, 0, "a cell of each column more");
     read_file(length, TAWQESHIM_CELLS, TAWQESHIM_SECTORS, TAWQESHIM_MARKS + 1);
-    answers(TAWQESHIM_NO_LENGTH, 0, "a work word more");
+    answers(TAWQESHIM_REFUSED_LENGTH, 0, "a work word more");
     read_file(length + 1, TAWQESHIM_CELLS, TAWQESHIM_SECTORS, TAWQESHIM_MARKS);
-    answers(TAWQESHIM_NO_END, length, "a byte after the longest file");
+    answers(TAWQESHIM_REFUSED_END, length, "a byte after the longest file");
     /* In place of the end the first cell once more, and a byte after it. */
     memcpy(file + length - 1, file + 2, 7);
     for (size_t longer = TAWQESHIM_FILE_READ; longer <= TAWQESHIM_FILE_READ + 1; longer++) {
         read_file(longer, TAWQESHIM_CELLS, TAWQESHIM_SECTORS, TAWQESHIM_MARKS);
-        answers(TAWQESHIM_NO_FIRST_NAMING, length - 1, "an input that is longer than any file");
+        answers(TAWQESHIM_REFUSED_SECOND_NAMING, length - 1, "an input that is longer than any file");
     }
 
     size_t written = 7;
@@ -159,7 +159,7 @@ static void sizes(void) {
     expect(page[TAWQESHIM_PAGE] == 7, "a byte beyond a page changed");
     for (size_t other = TAWQESHIM_PAGE - 1; other <= TAWQESHIM_PAGE + 1; other += 2) {
         tawqeshim_page(file, 0, page, other, &number, &place, &written);
-        answers(TAWQESHIM_NO_LENGTH, 0, "a page's buffer of another length");
+        answers(TAWQESHIM_REFUSED_LENGTH, 0, "a page's buffer of another length");
         expect(written == 0 && page[0] == 0 && page[other - 1] == 0, "a refused page is not 0");
     }
 }

@@ -58,12 +58,13 @@ static void one_call(const uint8_t *file, size_t length, const size_t lengths[SL
     for (size_t k = 0; k < lengths[7]; k++) assert(cells[7][GUARD + k] == 0);
 
     int right = memcmp(lengths, exact, sizeof exact) == 0;
-    assert(number == TAWQESHIM_ACCEPTED || number == TAWQESHIM_NO_LENGTH || (number >= TAWQESHIM_NO_RECORD && number <= TAWQESHIM_NO_END));
-    assert((number == TAWQESHIM_NO_LENGTH) == !right);
+    assert(number == TAWQESHIM_ACCEPTED || number == TAWQESHIM_REFUSED_LENGTH ||
+           (number >= TAWQESHIM_REFUSED_RECORD && number <= TAWQESHIM_REFUSED_END));
+    assert((number == TAWQESHIM_REFUSED_LENGTH) == !right);
     if (number != 0) {
         assert(sectors == 0 && named == 0);
         assert(place <= length);
-        assert(number != TAWQESHIM_NO_LENGTH || place == 0);
+        assert(number != TAWQESHIM_REFUSED_LENGTH || place == 0);
         for (size_t s = 0; s < SLICES; s++)
             for (size_t k = 0; k < lengths[s]; k++) assert(cells[s][GUARD + k] == 0);
     } else {
