@@ -64,7 +64,7 @@ extern const char tawqeshim_version[];
 /* The rounds that a page allows. */
 #define TAWQESHIM_PAGE_BUDGET UINT32_C(1400)
 
-/* What `*number` tells: that the call was accepted, or which question was answered no. Before each stands what it asks, and its `*place`. */
+/* What `*number` tells: that the call was accepted, or which question was answered no. Before each stands what it asks, and its place. */
 enum tawqeshim_number {
     TAWQESHIM_ACCEPTED = 0,
     /* n is from 1 to 40 */
