@@ -8,7 +8,8 @@
 #include <string.h>
 #include <time.h>
 
-enum { SECTORS = 40, CELLS = 1600, FILE_BYTES = 12643, WAYS = 3, REPETITIONS = 31 };
+enum { SECTORS = TAWQESHIM_SECTORS, CELLS = TAWQESHIM_CELLS, MARKS = TAWQESHIM_MARKS, FILE_BYTES = TAWQESHIM_FILE };
+enum { WAYS = 3, REPETITIONS = 31 };
 static const uint32_t BUDGET = UINT32_MAX;
 
 static const struct {
@@ -40,7 +41,7 @@ struct output {
     uint8_t number;
     size_t place, sectors, named;
     uint32_t rounds;
-    uint64_t sheet[CELLS], columns[6][SECTORS], work[46];
+    uint64_t sheet[CELLS], columns[6][SECTORS], work[MARKS];
 };
 
 static void run(enum call call, int way, const struct input *in, struct output *out)
@@ -50,7 +51,7 @@ static void run(enum call call, int way, const struct input *in, struct output *
     if (call == READ)
         ways[way].read_table(
             in->file, in->length, out->sheet, CELLS, c[0], SECTORS, c[1], SECTORS, c[2], SECTORS, c[3], SECTORS, c[4],
-            SECTORS, c[5], SECTORS, out->work, 46, &out->number, &out->place, &out->sectors, &out->named);
+            SECTORS, c[5], SECTORS, out->work, MARKS, &out->number, &out->place, &out->sectors, &out->named);
     else if (call == INVERSE)
         ways[way].inverse(
             n, in->d, n * n, in->budget, out->sheet, n * n, c[0], n, c[1], n, &out->number, &out->place, &out->rounds);

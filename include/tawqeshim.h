@@ -1,44 +1,32 @@
 /*
  * Tawqeshim for C: input-output sheets, production, prices and multipliers of a region, in whole numbers.
  *
- * Each function does what the library's call of the same name does, and is proved to (crates/capi, crates/capi_table). Link with
- * libtawqeshim.so or with libtawqeshim.a, which scripts/shared-library builds. Both are for x86-64 Linux.
+ * Each function does what the library's call of the same name does, and is proved to (crates/c_sheets, crates/c_tables, crates/c_files).
+ * Link with libtawqeshim.so or with libtawqeshim.a, which scripts/shared-library builds. Both are for x86-64 Linux.
  *
- * A table has n sectors, 1 to 40, counted from 0. Matrices have n * n cells, row by row: the cell of row i and column j is cell i * n + j.
- * Amounts are whole numbers of one money unit. Shares and coefficients are whole millionths: "one" is 1,000,000. Quotients are rounded down.
+ * A table has n sectors, 1 to 40, counted from 0. Matrices have n * n cells, row by row: the cell of row i and column j is cell i * n +
+ * j. Amounts are whole numbers of one money unit. Shares and coefficients are whole millionths: "one" is 1,000,000. Quotients are rounded
+ * down.
  *
- * Slices. Each array is a pointer, then its length in cells (of `file` and a page, in bytes). Any lengths, cells, n and budget may be handed
- * over; a wrong length is refused with number 2.
+ * Arrays. Each array is a pointer, then its length in cells (of `file` and a page, in bytes). Any lengths, cells, n and budget may be
+ * handed over; a wrong length is refused with number 2.
  *
  * Answers. `*number` is 0 if the call was accepted, and only then; `*place` is then 0. Otherwise `*number` is that of the first question
- * answered no, `*place` says where, and every count is 0. Questions are asked in the order that a function states.
- *
- *    1  n is from 1 to 40
- *    2  every array has its exact length, outputs and work included
- *    3  every amount is within 1,000,000,000, and every share within one. Place: the first cell over, counted on through the arrays
- *    4  every column balances: purchases and value added are production. Place: the first column that does not
- *    5  every row balances: sales, final demand and exports are production and imports. Place: the first row that does not
- *    6  a sector's imports are at most its sales and final demand. Place: the first sector over
- *    7  every column sum of domestic coefficients is at most 950,000. Place: the first column over
- *    8  every demand is at most 2,000,000,000, every direct rise at most 1,000,000,000, and a given production totals at most
- *       1,600,000,000,000. Place: the first sector over, or at which the running total is
- *    9  the rounds settle within the budget. Place: 0; of the inverse, the first column that does not settle
- *   10  a given production leaves every sector's demand at 0 or above. Place: the first sector short
- *   11  a record's kind is 1 to 9, and its body is whole
- *   12  the first record is kind 1 with n from 1 to 40, and no later record is kind 1
- *   13  every sector byte is from 1 to n
- *   14  the cell is named for the first time. Place of 11 to 14: the offset of the record's kind byte
- *   15  kind 8 comes, with no byte after it. Place: the file's length if no end came, else the offset after the end
- *
- * Places of questions without one are 0.
+ * answered no, `*place` says where, and every count is 0. Questions are asked in the order that a function states; they are listed below,
+ * at enum tawqeshim_number. Places of questions without one are 0.
  *
  * The caller's duties, which no function can ask about:
- *   - no pointer is null, also where its length is 0; each is aligned for its type;
+ *   - no pointer is NULL, also where its length is 0; each is aligned for its type;
  *   - each array is readable, and where it is not const writable, for its whole length;
- *   - what is not const, arrays and numbers alike, overlaps nothing else that is handed to the same call.
+ *   - what is not const, arrays and numbers alike, overlaps nothing else that is handed to the same call;
+ *   - during a call no other thread writes what is handed to it, or reads what is not const.
+ *
+ * Why no NULL with length 0: an array reaches the proved code as a slice, which is a pointer and a count. In the machine that the proofs
+ * speak of a pointer is a place in some block of memory, and there is no NULL; the language has nothing to compare a pointer with. So
+ * nothing is proved of a call with NULL. For an empty file hand over the address of any byte, with length 0.
  *
  * No function allocates, keeps anything between calls, or writes to what is const. Whatever outputs, work and numbers held before is
- * overwritten, but for the bytes after a page.
+ * overwritten. Several threads may call at once.
  */
 #ifndef TAWQESHIM_H
 #define TAWQESHIM_H
@@ -50,6 +38,93 @@
 extern "C" {
 #endif
 
+/* The version of this header; scripts/version prints and sets it. A change of the first number changes what callers see. */
+#define TAWQESHIM_VERSION "1.0.0"
+
+/* The version of the library that a program runs with. */
+extern const char tawqeshim_version[];
+
+/* Sizes of arrays. Those of read_table and of a page do not depend on n. */
+#define TAWQESHIM_SECTORS 40      /* the most sectors; the cells of each column that read_table fills */
+#define TAWQESHIM_CELLS 1600      /* the cells of x that read_table fills; every matrix fits */
+#define TAWQESHIM_MARKS 46        /* the work words of read_table */
+#define TAWQESHIM_PAGE 2851       /* the bytes of a page's buffer */
+#define TAWQESHIM_FILE 12643      /* the bytes of the longest accepted table file */
+#define TAWQESHIM_FILE_READ 12649 /* a longer input is answered as its first 12,649 bytes are: a buffer of these is enough */
+
+/* One, in millionths, and the limits of the questions. */
+#define TAWQESHIM_ONE UINT64_C(1000000)
+#define TAWQESHIM_AMOUNT_LIMIT UINT64_C(1000000000)        /* 3: an amount of a table, a final demand */
+#define TAWQESHIM_SHARE_LIMIT TAWQESHIM_ONE                /* 3: an input coefficient, an import share, a value share */
+#define TAWQESHIM_COLUMN_LIMIT UINT64_C(950000)            /* 7: the column sum of domestic coefficients */
+#define TAWQESHIM_DEMAND_LIMIT UINT64_C(2000000000)        /* 8: a demand for domestic goods */
+#define TAWQESHIM_RISE_LIMIT UINT64_C(1000000000)          /* 8: a direct rise */
+#define TAWQESHIM_PRODUCTION_LIMIT UINT64_C(1600000000000) /* 8: the total of a given production */
+
+/* The rounds that a page allows. */
+#define TAWQESHIM_PAGE_BUDGET UINT32_C(1400)
+
+/* What `*number` tells: that the call was accepted, or which question was answered no. Before each stands what it asks, and its place. */
+enum tawqeshim_number {
+    TAWQESHIM_ACCEPTED = 0,
+    /* n is from 1 to 40 */
+    TAWQESHIM_REFUSED_SIZE = 1,
+    /* every array has its exact length, outputs and work included */
+    TAWQESHIM_REFUSED_LENGTH = 2,
+    /* every amount is within 1,000,000,000, and every share within one. Place: the first cell over, counted on through the arrays */
+    TAWQESHIM_REFUSED_AMOUNT = 3,
+    /* every column balances: purchases and value added are production. Place: the first column that does not */
+    TAWQESHIM_REFUSED_COLUMN_BALANCE = 4,
+    /* every row balances: sales, final demand and exports are production and imports. Place: the first row that does not */
+    TAWQESHIM_REFUSED_ROW_BALANCE = 5,
+    /* a sector's imports are at most its sales and final demand. Place: the first sector over */
+    TAWQESHIM_REFUSED_IMPORTS = 6,
+    /* every column sum of domestic coefficients is at most 950,000. Place: the first column over */
+    TAWQESHIM_REFUSED_COLUMN_SUM = 7,
+    /* every demand is at most 2,000,000,000, every direct rise at most 1,000,000,000, and a given production totals at most
+       1,600,000,000,000. Place: the first sector over, or at which the running total is */
+    TAWQESHIM_REFUSED_LIMIT = 8,
+    /* the rounds settle within the budget. Place: 0; of the inverse, the first column that does not settle */
+    TAWQESHIM_REFUSED_ROUNDS = 9,
+    /* a given production leaves every sector's demand at 0 or above. Place: the first sector short */
+    TAWQESHIM_REFUSED_SHORTAGE = 10,
+    /* a record's kind is 1 to 9, and its body is whole. Place of 11 to 14: the offset of the record's kind byte */
+    TAWQESHIM_REFUSED_RECORD = 11,
+    /* the first record is kind 1 with n from 1 to 40, and no later record is kind 1 */
+    TAWQESHIM_REFUSED_FIRST_RECORD = 12,
+    /* every sector byte is from 1 to n */
+    TAWQESHIM_REFUSED_SECTOR = 13,
+    /* the cell is named for the first time */
+    TAWQESHIM_REFUSED_SECOND_NAMING = 14,
+    /* kind 8 comes, with no byte after it. Place: the file's length if no end came, otherwise the offset after the end */
+    TAWQESHIM_REFUSED_END = 15,
+    /* the last number */
+    TAWQESHIM_QUESTIONS = 15
+};
+
+/* The question of a number, as text to show; an empty text for 0 and for a number that no question has. */
+static inline const char *tawqeshim_question(uint8_t number) {
+    static const char *const texts[TAWQESHIM_QUESTIONS + 1] = {
+        "",
+        "is n from 1 to 40?",
+        "has every array its exact length?",
+        "is every amount within 1,000,000,000 and every share within one?",
+        "does every column balance?",
+        "does every row balance?",
+        "are a sector's imports at most its domestic need?",
+        "is every column sum of domestic coefficients at most 950,000?",
+        "is every demand, direct rise or total of a production within its limit?",
+        "do the rounds settle within the budget?",
+        "does the production leave every sector's demand at 0 or above?",
+        "is the record's kind 1 to 9, and its body whole?",
+        "is the first record kind 1 with n from 1 to 40, and no later one?",
+        "is every sector byte from 1 to n?",
+        "is the cell named for the first time?",
+        "does kind 8 come, with no byte after it?",
+    };
+    return number <= TAWQESHIM_QUESTIONS ? texts[number] : "";
+}
+
 /*
  * From a table to its sheets. Asks 1, 2, 3, 4, 5, 6, 7.
  *
@@ -57,6 +132,10 @@ extern "C" {
  * production, n cells each. Places of 3 count on through these six in this order.
  * Gives input coefficients a and domestic coefficients d, n * n cells each; value shares v, import shares m and the demand for domestic
  * goods f, n cells each. Question 7 is about d.
+ *
+ * TAKE CARE: here v comes BEFORE m. tawqeshim_induced takes m BEFORE v. All are of one type, so the compiler does not see them exchanged.
+ * tawqeshim_table_sheets and tawqeshim_sheets_induced, below, go by names instead.
+ *
  * A refusal sets every cell of a, v, m, d and f to 0.
  */
 void tawqeshim_coefficients(
@@ -129,6 +208,10 @@ void tawqeshim_implied_demand(
  * Takes input coefficients a, n * n cells; import shares m, value shares v, final_demand and a production, n cells each. Places of 3 count
  * on through a, m, v and final_demand.
  * Gives induced value added in value and induced imports in imports, n cells each.
+ *
+ * TAKE CARE: here m comes BEFORE v. tawqeshim_coefficients gives v BEFORE m. All are of one type, so the compiler does not see them
+ * exchanged. tawqeshim_table_sheets and tawqeshim_sheets_induced, below, go by names instead.
+ *
  * A refusal sets every cell of value and imports to 0.
  */
 void tawqeshim_induced(
@@ -173,7 +256,8 @@ void tawqeshim_row(
 /*
  * Reads a table file of any bytes. Asks 2, then 11, 12, 13, 14, 15 of each record in turn.
  *
- * Takes the bytes of the file. The lengths that 2 asks for are fixed: 1,600 cells for x, 40 for each of the six columns, 46 for marks.
+ * Takes the bytes of the file. The lengths that 2 asks for are fixed: TAWQESHIM_CELLS (1,600) for x, TAWQESHIM_SECTORS (40) for each of the
+ * six columns, TAWQESHIM_MARKS (46) for marks.
  * Gives x, whose row i starts at cell i * n; final_demand, exports, imports, value_added, production and rises; n in *sectors, and in
  * *named how many cells the file names. Cells that are not named are 0. Amounts are not checked here: tawqeshim_coefficients asks 3.
  * A refusal sets every cell of x and of the six columns to 0. Every cell of marks, which are work, is 0 after every call.
@@ -194,15 +278,50 @@ void tawqeshim_read_table(
  * Reads a table file of any bytes and writes the sheet that is printed of it, as the program roadsheet does: demand, production with 1,400
  * rounds allowed, and induced value added and imports, a line a sector; or the one line `refused`, a number and a place.
  *
- * Asks 2: out has exactly 2,851 bytes, which hold every page.
- * Gives in *length how many bytes the page has, and in out the page from the start; every byte after it is 0. A page of `refused` is a page:
- * its number and place stand in its text, and *number is 0.
+ * Asks 2: out has exactly TAWQESHIM_PAGE (2,851) bytes, which hold every page.
+ * Gives in *length how many bytes the page has, and in out the page from the start; every byte after it is 0. A page of `refused` is a
+ * page: its number and place stand in its text, and *number is 0.
  * A refusal sets every byte of out to 0.
  */
 void tawqeshim_page(
     const uint8_t *file, size_t file_length,
     uint8_t *out, size_t out_length,
     uint8_t *number, size_t *place, size_t *length);
+
+/*
+ * A table and its sheets by names, for tawqeshim_coefficients and tawqeshim_induced without a word about lengths or order. Each pointer is
+ * to n cells, or where it says so to n * n; these lengths are handed over as they are, so the arrays must have them.
+ */
+struct tawqeshim_table {
+    const uint64_t *flows; /* n * n: x */
+    const uint64_t *final_demand, *exports, *imports, *value_added, *production;
+};
+
+struct tawqeshim_sheets {
+    uint64_t *inputs;        /* n * n: a */
+    uint64_t *value_shares;  /* v */
+    uint64_t *import_shares; /* m */
+    uint64_t *domestic;      /* n * n: d */
+    uint64_t *demand;        /* f */
+};
+
+/* tawqeshim_coefficients: fills the sheets of a table. */
+static inline void tawqeshim_table_sheets(
+    size_t n, const struct tawqeshim_table *table, const struct tawqeshim_sheets *sheets, uint8_t *number, size_t *place) {
+    tawqeshim_coefficients(
+        n, table->flows, n * n, table->final_demand, n, table->exports, n, table->imports, n, table->value_added, n, table->production, n,
+        sheets->inputs, n * n, sheets->value_shares, n, sheets->import_shares, n, sheets->domestic, n * n, sheets->demand, n,
+        number, place);
+}
+
+/* tawqeshim_induced: what a production induces by the inputs, import_shares and value_shares of sheets, which are only read. */
+static inline void tawqeshim_sheets_induced(
+    size_t n, const struct tawqeshim_sheets *sheets, const uint64_t *final_demand, const uint64_t *production,
+    uint64_t *value, uint64_t *imports, uint8_t *number, size_t *place) {
+    tawqeshim_induced(
+        n, sheets->inputs, n * n, sheets->import_shares, n, sheets->value_shares, n, final_demand, n, production, n, value, n, imports, n,
+        number, place);
+}
 
 #ifdef __cplusplus
 }

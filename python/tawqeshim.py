@@ -35,6 +35,7 @@ from array import array
 from collections import namedtuple
 from pathlib import Path
 
+__version__ = "1.0.0"
 __all__ = ["QUESTIONS", "Refused", "Coefficients", "Production", "Prices", "Induced", "Inverse", "Table", "coefficients", "production",
            "price", "implied_demand", "induced", "inverse", "row", "read_table", "page"]
 

@@ -11,36 +11,34 @@
 #include "tawqeshim.h"
 
 #define N 2
-#define SHEET(cells) cells, N * N
-#define COLUMN(cells) cells, N
 
 static void accept(uint8_t number, size_t place) {
-    if (number != 0) {
-        printf("refused %d %zu\n", number, place);
+    if (number != TAWQESHIM_ACCEPTED) {
+        printf("refused %d %zu: %s\n", number, place, tawqeshim_question(number));
         exit(1);
     }
 }
 
 int main(void) {
-    const uint64_t x[N * N] = {100, 400, 300, 600};
+    const uint64_t flows[N * N] = {100, 400, 300, 600};
     const uint64_t final_demand[N] = {500, 900}, exports[N] = {250, 560}, imports[N] = {250, 360};
     const uint64_t value_added[N] = {600, 1000}, production[N] = {1000, 2000};
+    const struct tawqeshim_table table = {flows, final_demand, exports, imports, value_added, production};
     uint8_t number;
     size_t place;
 
     uint64_t a[N * N], v[N], m[N], d[N * N], f[N];
-    tawqeshim_coefficients(N, SHEET(x), COLUMN(final_demand), COLUMN(exports), COLUMN(imports), COLUMN(value_added),
-                           COLUMN(production), SHEET(a), COLUMN(v), COLUMN(m), SHEET(d), COLUMN(f), &number, &place);
+    const struct tawqeshim_sheets sheets = {.inputs = a, .value_shares = v, .import_shares = m, .domestic = d, .demand = f};
+    tawqeshim_table_sheets(N, &table, &sheets, &number, &place);
     accept(number, place);
 
     uint64_t settled[N], work[N];
     uint32_t rounds;
-    tawqeshim_production(N, SHEET(d), COLUMN(f), 1400, COLUMN(settled), COLUMN(work), &number, &place, &rounds);
+    tawqeshim_production(N, d, N * N, f, N, TAWQESHIM_PAGE_BUDGET, settled, N, work, N, &number, &place, &rounds);
     accept(number, place);
 
     uint64_t value[N], imported[N];
-    tawqeshim_induced(N, SHEET(a), COLUMN(m), COLUMN(v), COLUMN(final_demand), COLUMN(settled), COLUMN(value),
-                      COLUMN(imported), &number, &place);
+    tawqeshim_sheets_induced(N, &sheets, final_demand, settled, value, imported, &number, &place);
     accept(number, place);
 
     printf("sector demand production value imports\n");

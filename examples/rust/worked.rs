@@ -28,10 +28,14 @@ extern "C" {
     );
 }
 
+// From the header: the number of an accepted call, and the rounds that a page allows.
+const ACCEPTED: u8 = 0;
+const PAGE_BUDGET: u32 = 1400;
+
 const N: usize = 2;
 
 fn accept(number: u8, place: usize) {
-    if number != 0 {
+    if number != ACCEPTED {
         println!("refused {number} {place}");
         exit(1);
     }
@@ -45,7 +49,8 @@ fn main() {
 
     let (mut a, mut d) = ([0; N * N], [0; N * N]);
     let (mut v, mut m, mut f) = ([0; N], [0; N], [0; N]);
-    // Every pointer is of a live array of the stated length, and no array that is written is handed over twice.
+    // Every pointer is of a live array of the stated length, and no array that is written is handed over twice. `coefficients` has v
+    // before m, `induced` below has m before v.
     unsafe {
         tawqeshim_coefficients(
             N, x.as_ptr(), N * N, final_demand.as_ptr(), N, exports.as_ptr(), N, imports.as_ptr(), N,
@@ -58,7 +63,7 @@ fn main() {
     let (mut settled, mut work) = ([0; N], [0; N]);
     unsafe {
         tawqeshim_production(
-            N, d.as_ptr(), N * N, f.as_ptr(), N, 1400, settled.as_mut_ptr(), N, work.as_mut_ptr(), N,
+            N, d.as_ptr(), N * N, f.as_ptr(), N, PAGE_BUDGET, settled.as_mut_ptr(), N, work.as_mut_ptr(), N,
             &mut number, &mut place, &mut rounds,
         );
     }

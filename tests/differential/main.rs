@@ -17,11 +17,13 @@ const SEED: u64 = 0x7461_7771_6573_6869;
 const CASES: u64 = 2_000_000;
 const THREADS: u64 = 2;
 const SHEETS: usize = 10_000;
+/// Every number that an answer can have, 0 with them.
+const NUMBERS: usize = reference::QUESTIONS + 1;
 
 /// What a run has seen: cases for each call and number, the most rounds, and what differs.
 struct Tally {
     cases: u64,
-    seen: [[u64; 16]; CALLS.len()],
+    seen: [[u64; NUMBERS]; CALLS.len()],
     most_rounds: usize,
     differences: u64,
     smallest: Vec<(Case, String)>,
@@ -31,7 +33,7 @@ impl Tally {
     fn new() -> Tally {
         Tally {
             cases: 0,
-            seen: [[0; 16]; CALLS.len()],
+            seen: [[0; NUMBERS]; CALLS.len()],
             most_rounds: 0,
             differences: 0,
             smallest: vec![],
@@ -78,7 +80,7 @@ impl Tally {
     }
 }
 
-/// The worked cases and slips through the reference. Returns how many are wrong.
+/// The worked cases and slips through the reference, and the header's count of questions. Returns how many are wrong.
 fn self_test() -> u64 {
     let mut all = 0;
     let mut wrong = 0;
@@ -96,6 +98,12 @@ fn self_test() -> u64 {
             wrong += 1;
             println!("{name}: wrong");
         }
+    }
+    all += 1;
+    let header = include_str!("../../include/tawqeshim.h");
+    if !header.contains(&format!("TAWQESHIM_QUESTIONS = {}\n", reference::QUESTIONS)) {
+        wrong += 1;
+        println!("the header has another last question than {}", reference::QUESTIONS);
     }
     println!("reference: {all} worked cases, {wrong} wrong");
     wrong
@@ -133,7 +141,7 @@ fn main() {
     let mut unseen = 0;
     for call in CALLS {
         let seen = &tally.seen[call as usize];
-        let counts: Vec<String> = (0..16)
+        let counts: Vec<String> = (0..NUMBERS)
             .filter(|number| seen[*number] > 0 || call.numbers().contains(&(*number as u8)))
             .map(|number| format!("{number}: {}", seen[number]))
             .collect();

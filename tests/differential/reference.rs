@@ -4,6 +4,8 @@
 //! with the library. A call takes its inputs and the lengths of the slices lent to it. It gives
 //! the cells of those slices after the call, in the interface's order, or a refusal.
 
+/// The last number of a question.
+pub const QUESTIONS: usize = 15;
 pub const ONE: u128 = 1_000_000;
 pub const SECTORS: usize = 40;
 pub const AMOUNT_LIMIT: u128 = 1_000_000_000;

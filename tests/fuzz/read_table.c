@@ -15,11 +15,12 @@
 #define GUARD 2
 #define JUNK UINT64_C(0xa5c35a3c96f00f69)
 
-static const size_t exact[SLICES] = {1600, 40, 40, 40, 40, 40, 40, 46};
+static const size_t exact[SLICES] = {TAWQESHIM_CELLS,   TAWQESHIM_SECTORS, TAWQESHIM_SECTORS, TAWQESHIM_SECTORS,
+                                     TAWQESHIM_SECTORS, TAWQESHIM_SECTORS, TAWQESHIM_SECTORS, TAWQESHIM_MARKS};
 
 /* What a call tells serves libFuzzer as coverage, since the library itself carries no counters. */
 __attribute__((section("__libfuzzer_extra_counters"), used)) static volatile uint8_t
-    told[16 * 64 + 2048];
+    told[(TAWQESHIM_QUESTIONS + 1) * 64 + 2048];
 
 /* Room for a file, with a page behind it that cannot be read: a reading past the end stops here. */
 #define ROOM (1 << 16)
@@ -35,7 +36,7 @@ static uint8_t *room(void) {
 }
 
 static void one_call(const uint8_t *file, size_t length, const size_t lengths[SLICES]) {
-    static uint64_t cells[SLICES][1600 + 1 + 2 * GUARD];
+    static uint64_t cells[SLICES][TAWQESHIM_CELLS + 1 + 2 * GUARD];
     for (size_t s = 0; s < SLICES; s++)
         for (size_t k = 0; k < lengths[s] + 2 * GUARD; k++) cells[s][k] = JUNK;
 
@@ -57,19 +58,20 @@ static void one_call(const uint8_t *file, size_t length, const size_t lengths[SL
     for (size_t k = 0; k < lengths[7]; k++) assert(cells[7][GUARD + k] == 0);
 
     int right = memcmp(lengths, exact, sizeof exact) == 0;
-    assert(number == 0 || number == 2 || (number >= 11 && number <= 15));
-    assert((number == 2) == !right);
+    assert(number == TAWQESHIM_ACCEPTED || number == TAWQESHIM_REFUSED_LENGTH ||
+           (number >= TAWQESHIM_REFUSED_RECORD && number <= TAWQESHIM_REFUSED_END));
+    assert((number == TAWQESHIM_REFUSED_LENGTH) == !right);
     if (number != 0) {
         assert(sectors == 0 && named == 0);
         assert(place <= length);
-        assert(number != 2 || place == 0);
+        assert(number != TAWQESHIM_REFUSED_LENGTH || place == 0);
         for (size_t s = 0; s < SLICES; s++)
             for (size_t k = 0; k < lengths[s]; k++) assert(cells[s][GUARD + k] == 0);
     } else {
         assert(place == 0);
-        assert(sectors >= 1 && sectors <= 40);
+        assert(sectors >= 1 && sectors <= TAWQESHIM_SECTORS);
         assert(named <= sectors * sectors + 6 * sectors);
-        assert(length >= 3 + 6 * named && length <= 12643);
+        assert(length >= 3 + 6 * named && length <= TAWQESHIM_FILE);
         for (size_t s = 0; s < 7; s++) {
             size_t used = s == 0 ? sectors * sectors : sectors;
             for (size_t k = 0; k < lengths[s]; k++) {
@@ -82,7 +84,7 @@ static void one_call(const uint8_t *file, size_t length, const size_t lengths[SL
     size_t deep = 0;
     for (size_t rest = place + 8 * named; rest > 0; rest -= (rest + 7) / 8) deep++;
     told[number * 64 + (deep < 64 ? deep : 63)] = 1;
-    told[16 * 64 + (named < 2048 ? named : 2047)] = 1;
+    told[(TAWQESHIM_QUESTIONS + 1) * 64 + (named < 2048 ? named : 2047)] = 1;
 }
 
 int LLVMFuzzerTestOneInput(const uint8_t *file, size_t length) {

@@ -1,0 +1,197 @@
+/*
+ * Tests of include/tawqeshim.h: its constants against what the library accepts and refuses, the questions' texts, the version, and the
+ * functions that go by names. tests/run compiles it as C99 and as C++, with every warning an error.
+ */
+#include "tawqeshim.h"
+
+#include <stdio.h>
+#include <string.h>
+
+static int failures;
+
+static void expect(int right, const char *what) {
+    if (!right) {
+        printf("header: %s\n", what);
+        failures++;
+    }
+}
+
+static uint8_t number;
+static size_t place;
+static uint32_t rounds;
+
+/* A given number, at a given place. */
+static void answers(int expected, size_t at, const char *what) {
+    expect(number == expected && place == at, what);
+}
+
+static void questions(void) {
+    expect(tawqeshim_question(TAWQESHIM_ACCEPTED)[0] == 0, "0 has a question");
+    for (int k = 1; k <= 255; k++) {
+        const char *text = tawqeshim_question((uint8_t)k);
+        if (k > TAWQESHIM_QUESTIONS) {
+            expect(text[0] == 0, "a number after the last has a question");
+            continue;
+        }
+        expect(text[0] != 0 && text[strlen(text) - 1] == '?', "a question has no text, or one that asks nothing");
+        for (int other = 1; other < k; other++)
+            expect(strcmp(text, tawqeshim_question((uint8_t)other)) != 0, "two questions have one text");
+    }
+    expect(TAWQESHIM_REFUSED_END == TAWQESHIM_QUESTIONS, "the last question is not the last number");
+    expect(strcmp(tawqeshim_question(TAWQESHIM_REFUSED_ROUNDS), "do the rounds settle within the budget?") == 0, "the text of question 9");
+    expect(strcmp(tawqeshim_question(TAWQESHIM_REFUSED_END), "does kind 8 come, with no byte after it?") == 0, "the text of question 15");
+}
+
+/* One sector, whose coefficient, demand and rise may be at a limit or one over it. */
+static void produce(uint64_t d, uint64_t f) {
+    uint64_t out, work;
+    tawqeshim_production(1, &d, 1, &f, 1, TAWQESHIM_PAGE_BUDGET, &out, 1, &work, 1, &number, &place, &rounds);
+}
+
+static void rise(uint64_t w) {
+    uint64_t d = 0, out, work;
+    tawqeshim_price(1, &d, 1, &w, 1, TAWQESHIM_PAGE_BUDGET, &out, 1, &work, 1, &number, &place, &rounds);
+}
+
+static void imply(uint64_t production) {
+    uint64_t d = 0, out;
+    tawqeshim_implied_demand(1, &d, 1, &production, 1, &out, 1, &number, &place);
+}
+
+static void induce(uint64_t share, uint64_t final_demand) {
+    uint64_t a = 0, v = 0, production = 0, value, imports;
+    tawqeshim_induced(1, &a, 1, &share, 1, &v, 1, &final_demand, 1, &production, 1, &value, 1, &imports, 1, &number, &place);
+}
+
+static void limits(void) {
+    produce(TAWQESHIM_COLUMN_LIMIT, 1);
+    answers(TAWQESHIM_ACCEPTED, 0, "a column sum at its limit");
+    produce(TAWQESHIM_COLUMN_LIMIT + 1, 1);
+    answers(TAWQESHIM_REFUSED_COLUMN_SUM, 0, "a column sum over its limit");
+    produce(0, TAWQESHIM_DEMAND_LIMIT);
+    answers(TAWQESHIM_ACCEPTED, 0, "a demand at its limit");
+    produce(0, TAWQESHIM_DEMAND_LIMIT + 1);
+    answers(TAWQESHIM_REFUSED_LIMIT, 0, "a demand over its limit");
+    rise(TAWQESHIM_RISE_LIMIT);
+    answers(TAWQESHIM_ACCEPTED, 0, "a rise at its limit");
+    rise(TAWQESHIM_RISE_LIMIT + 1);
+    answers(TAWQESHIM_REFUSED_LIMIT, 0, "a rise over its limit");
+    imply(TAWQESHIM_PRODUCTION_LIMIT);
+    answers(TAWQESHIM_ACCEPTED, 0, "a production at its limit");
+    imply(TAWQESHIM_PRODUCTION_LIMIT + 1);
+    answers(TAWQESHIM_REFUSED_LIMIT, 0, "a production over its limit");
+    induce(TAWQESHIM_SHARE_LIMIT, TAWQESHIM_AMOUNT_LIMIT);
+    answers(TAWQESHIM_ACCEPTED, 0, "a share and an amount at their limits");
+    induce(TAWQESHIM_ONE + 1, 0);
+    answers(TAWQESHIM_REFUSED_AMOUNT, 1, "a share over its limit");
+    induce(0, TAWQESHIM_AMOUNT_LIMIT + 1);
+    answers(TAWQESHIM_REFUSED_AMOUNT, 3, "an amount over its limit");
+}
+
+static uint64_t sheet[TAWQESHIM_CELLS + 1], inverse[TAWQESHIM_CELLS + 1];
+static uint64_t columns[6][TAWQESHIM_SECTORS + 1], marks[TAWQESHIM_MARKS + 1];
+static uint8_t file[TAWQESHIM_FILE_READ + 1], page[TAWQESHIM_PAGE + 1];
+
+static void invert(size_t n) {
+    memset(sheet, 0, sizeof sheet);
+    tawqeshim_inverse(n, sheet, n * n <= TAWQESHIM_CELLS ? n * n : 0, 1, inverse, n * n <= TAWQESHIM_CELLS ? n * n : 0, columns[0], n,
+                      columns[1], n, &number, &place, &rounds);
+}
+
+static void read_file(size_t length, size_t cells, size_t sectors, size_t words) {
+    size_t n, named;
+    tawqeshim_read_table(file, length, sheet, cells, columns[0], sectors, columns[1], sectors, columns[2], sectors, columns[3], sectors,
+                         columns[4], sectors, columns[5], sectors, marks, words, &number, &place, &n, &named);
+}
+
+/* The longest file: every cell of 40 sectors, all 0. */
+static size_t longest_file(void) {
+    static const uint8_t kinds[6] = {3, 4, 5, 6, 7, 9};
+    size_t at = 0;
+    file[at++] = 1;
+    file[at++] = TAWQESHIM_SECTORS;
+    for (uint8_t i = 1; i <= TAWQESHIM_SECTORS; i++)
+        for (uint8_t j = 1; j <= TAWQESHIM_SECTORS; j++, at += 7) {
+            file[at] = 2;
+            file[at + 1] = i;
+            file[at + 2] = j;
+        }
+    for (size_t k = 0; k < 6; k++)
+        for (uint8_t i = 1; i <= TAWQESHIM_SECTORS; i++, at += 6) {
+            file[at] = kinds[k];
+            file[at + 1] = i;
+        }
+    file[at++] = 8;
+    return at;
+}
+
+static void sizes(void) {
+    invert(TAWQESHIM_SECTORS);
+    answers(TAWQESHIM_ACCEPTED, 0, "the most sectors");
+    invert(TAWQESHIM_SECTORS + 1);
+    answers(TAWQESHIM_REFUSED_SIZE, 0, "a sector more than the most");
+    expect(TAWQESHIM_CELLS == TAWQESHIM_SECTORS * TAWQESHIM_SECTORS, "the cells of the most sectors");
+
+    size_t length = longest_file();
+    expect(length == TAWQESHIM_FILE, "the longest file has another length");
+    read_file(length, TAWQESHIM_CELLS, TAWQESHIM_SECTORS, TAWQESHIM_MARKS);
+    answers(TAWQESHIM_ACCEPTED, 0, "the longest file");
+    read_file(length, TAWQESHIM_CELLS + 1, TAWQESHIM_SECTORS, TAWQESHIM_MARKS);
+    answers(TAWQESHIM_REFUSED_LENGTH, 0, "a cell of x more");
+    read_file(length, TAWQESHIM_CELLS, TAWQESHIM_SECTORS + 1, TAWQESHIM_MARKS);
+    answers(TAWQESHIM_REFUSED_LENGTH, 0, "a cell of each column more");
+    read_file(length, TAWQESHIM_CELLS, TAWQESHIM_SECTORS, TAWQESHIM_MARKS + 1);
+    answers(TAWQESHIM_REFUSED_LENGTH, 0, "a work word more");
+    read_file(length + 1, TAWQESHIM_CELLS, TAWQESHIM_SECTORS, TAWQESHIM_MARKS);
+    answers(TAWQESHIM_REFUSED_END, length, "a byte after the longest file");
+    /* In place of the end the first cell once more, and a byte after it. */
+    memcpy(file + length - 1, file + 2, 7);
+    for (size_t longer = TAWQESHIM_FILE_READ; longer <= TAWQESHIM_FILE_READ + 1; longer++) {
+        read_file(longer, TAWQESHIM_CELLS, TAWQESHIM_SECTORS, TAWQESHIM_MARKS);
+        answers(TAWQESHIM_REFUSED_SECOND_NAMING, length - 1, "an input that is longer than any file");
+    }
+
+    size_t written = 7;
+    memset(page, 7, sizeof page);
+    tawqeshim_page(file, 0, page, TAWQESHIM_PAGE, &number, &place, &written);
+    answers(TAWQESHIM_ACCEPTED, 0, "a page");
+    expect(written == 13 && memcmp(page, "refused 15 0\n", 14) == 0 && page[TAWQESHIM_PAGE - 1] == 0, "the page of the empty file");
+    expect(page[TAWQESHIM_PAGE] == 7, "a byte beyond a page changed");
+    for (size_t other = TAWQESHIM_PAGE - 1; other <= TAWQESHIM_PAGE + 1; other += 2) {
+        tawqeshim_page(file, 0, page, other, &number, &place, &written);
+        answers(TAWQESHIM_REFUSED_LENGTH, 0, "a page's buffer of another length");
+        expect(written == 0 && page[0] == 0 && page[other - 1] == 0, "a refused page is not 0");
+    }
+}
+
+/* The worked table by names gives what it gives by order. */
+static void by_names(void) {
+    const uint64_t flows[4] = {100, 400, 300, 600}, settled[2] = {999, 1999};
+    const uint64_t columns_of[5][2] = {{500, 900}, {250, 560}, {250, 360}, {600, 1000}, {1000, 2000}};
+    const struct tawqeshim_table table = {flows, columns_of[0], columns_of[1], columns_of[2], columns_of[3], columns_of[4]};
+    uint64_t a[4], v[2], m[2], d[4], f[2], value[2], imports[2];
+    const struct tawqeshim_sheets sheets = {a, v, m, d, f};
+    tawqeshim_table_sheets(2, &table, &sheets, &number, &place);
+    answers(TAWQESHIM_ACCEPTED, 0, "the worked table");
+    expect(v[0] == 600000 && m[0] == 250000 && d[1] == 150000 && f[1] == 1280, "the worked table's sheets");
+    tawqeshim_sheets_induced(2, &sheets, columns_of[0], settled, value, imports, &number, &place);
+    answers(TAWQESHIM_ACCEPTED, 0, "the worked production");
+    expect(value[0] == 599 && value[1] == 999 && imports[0] == 249 && imports[1] == 359, "the worked table's induced amounts");
+
+    size_t start, length;
+    tawqeshim_row(2, flows, 4, 1, &start, &length);
+    expect(start == 2 && length == 2, "a row");
+    tawqeshim_row(2, flows, 4, 2, &start, &length);
+    expect(start == 0 && length == 0, "a row that there is not");
+}
+
+int main(void) {
+    expect(strcmp(tawqeshim_version, TAWQESHIM_VERSION) == 0, "the library is of another version");
+    questions();
+    limits();
+    sizes();
+    by_names();
+    if (failures == 0)
+        printf("header: constants, questions and names as the library has them\n");
+    return failures != 0;
+}
