@@ -4,7 +4,17 @@ Each function is a call of the shared library libtawqeshim.so, whose functions a
 target/libtawqeshim.so of the repository; the environment variable TAWQESHIM_LIBRARY may name another file.
 
 A table has n sectors, 1 to 40, counted from 0. Amounts are whole numbers of one money unit. Shares and coefficients are whole millionths,
-and every quotient is rounded down. The worked table has two sectors:
+and every quotient is rounded down.
+
+    coefficients      from a table to its sheets: coefficients, shares, and the demand for domestic goods
+    production        from a demand for domestic goods to production
+    price             from direct price rises to settled ones
+    implied_demand    from production back to the demand behind it
+    induced           value added and imports that a production induces
+    inverse, row      the Leontief inverse with its ratios; a row of a sheet
+    read_table, page  from the bytes of a table file to its cells, or to the printed sheet
+
+The worked table has two sectors:
 
 >>> flows = [[100, 400],
 ...          [300, 600]]
@@ -46,8 +56,6 @@ Refusals
     Traceback (most recent call last):
     tawqeshim.Refused: question 9, place 0: do the rounds settle within the budget?
 """
-from __future__ import annotations
-
 import ctypes
 import math
 import os
@@ -57,7 +65,7 @@ from array import array
 from collections.abc import Mapping, Sequence, Set
 from numbers import Integral
 from pathlib import Path
-from typing import Any, NamedTuple, NoReturn, Protocol, Union
+from typing import Any, NamedTuple, NoReturn, Optional, Protocol, Union
 
 __version__ = "1.0.0"
 
@@ -187,7 +195,7 @@ def _load() -> ctypes.CDLL:
     return library
 
 
-def _version(library: ctypes.CDLL) -> str | None:
+def _version(library: ctypes.CDLL) -> Optional[str]:
     """The version that the library states, if it is a library of Tawqeshim."""
     try:
         text = ctypes.c_char.in_dll(library, "tawqeshim_version")
@@ -238,12 +246,12 @@ class _Cells(NamedTuple):
     shape: tuple[int, ...]
 
 
-def _column(name: str, cells: Column) -> ctypes.Array:
+def _column(name: str, cells: "Column") -> ctypes.Array:
     """A column for the library."""
     return _copied(_taken(name, cells, 1).packed)
 
 
-def _matrix(name: str, cells: Matrix) -> ctypes.Array:
+def _matrix(name: str, cells: "Matrix") -> ctypes.Array:
     """A matrix for the library, row by row. One that was given in rows has as many rows as columns."""
     taken = _taken(name, cells, 2)
     if taken.shape[0] != taken.shape[-1]:
@@ -300,7 +308,7 @@ def _from_buffer(name: str, view: memoryview, dimensions: int) -> _Cells:
     return _Cells(numbers if code == "Q" else _packed(name, numbers, view.shape), view.shape)
 
 
-def _native_code(view: memoryview) -> str | None:
+def _native_code(view: memoryview) -> Optional[str]:
     """The code that `array` has for a buffer's numbers: by its letter whether they have a sign, by their size their width."""
     letter = view.format.lstrip("@=<")
     if letter in ("f", "d"):
@@ -367,12 +375,12 @@ def _packed(name: str, numbers: Any, shape: tuple[int, ...]) -> array:
 
 # ---- calls
 
-def _size(n: int | None, column: ctypes.Array) -> int:
+def _size(n: Optional[int], column: ctypes.Array) -> int:
     """The number of sectors: the length of a column, unless n states it."""
     return _whole("n", len(column) if n is None else n)
 
 
-def _side(n: int | None, sheet: ctypes.Array) -> int:
+def _side(n: Optional[int], sheet: ctypes.Array) -> int:
     """The number of sectors of a matrix: the root of its count of cells, unless n states it."""
     return _whole("n", math.isqrt(len(sheet)) if n is None else n)
 
@@ -419,8 +427,8 @@ def _ask(name: str, *words: Any, counts: Sequence[Any] = ()) -> None:
         raise Refused(number.value, place.value)
 
 
-def coefficients(flows: Matrix, final_demand: Column, exports: Column, imports: Column, value_added: Column, production: Column, *,
-                 n: int | None = None) -> Coefficients:
+def coefficients(flows: "Matrix", final_demand: "Column", exports: "Column", imports: "Column", value_added: "Column",
+                 production: "Column", *, n: Optional[int] = None) -> Coefficients:
     """From a table to its sheets. Asks 1 to 7.
 
     `flows` is x: in row i and column j, what sector j buys from sector i. Imports are positive numbers. Each column of flows and value
@@ -444,7 +452,7 @@ def coefficients(flows: Matrix, final_demand: Column, exports: Column, imports: 
     return Coefficients(a[:], v[:], m[:], d[:], f[:])
 
 
-def _settled(call: str, domestic: Matrix, name: str, start: Column, budget: int, n: int | None) -> tuple[list[int], int]:
+def _settled(call: str, domestic: "Matrix", name: str, start: "Column", budget: int, n: Optional[int]) -> tuple[list[int], int]:
     starts = _column(name, start)
     n = _size(n, starts)
     out, work = _new_column(n), _new_column(n)
@@ -453,7 +461,7 @@ def _settled(call: str, domestic: Matrix, name: str, start: Column, budget: int,
     return out[:], rounds.value
 
 
-def production(domestic: Matrix, demand: Column, budget: int = 1400, *, n: int | None = None) -> Production:
+def production(domestic: "Matrix", demand: "Column", budget: int = 1400, *, n: Optional[int] = None) -> Production:
     """Production from a demand for domestic goods. Asks 1, 2, 7, 8, 9.
 
     Against the exact balance no sector is too high, and all n sectors together lack less than 20 * n.
@@ -472,7 +480,7 @@ def production(domestic: Matrix, demand: Column, budget: int = 1400, *, n: int |
     return Production(*_settled("production", domestic, "demand", demand, budget, n))
 
 
-def price(domestic: Matrix, rises: Column, budget: int = 1400, *, n: int | None = None) -> Prices:
+def price(domestic: "Matrix", rises: "Column", budget: int = 1400, *, n: Optional[int] = None) -> Prices:
     """Price rises from direct rises, both in millionths. Asks 1, 2, 7, 8, 9.
 
     Against the exact balance no rise is too high, and each lacks less than 20 millionths.
@@ -483,10 +491,10 @@ def price(domestic: Matrix, rises: Column, budget: int = 1400, *, n: int | None 
     return Prices(*_settled("price", domestic, "rises", rises, budget, n))
 
 
-def implied_demand(domestic: Matrix, production: Column, *, n: int | None = None) -> list[int]:
+def implied_demand(domestic: "Matrix", production: "Column", *, n: Optional[int] = None) -> list[int]:
     """The demand for domestic goods behind a production. Asks 1, 2, 7, 8, 10.
 
-    The demand that `production` was given comes back. Of another production it does not: both productions here have one demand behind them.
+    Of a production that `production` gave it is the demand that it was given. Another production can have the same demand behind it:
 
     >>> domestic = [[75_000, 150_000], [240_000, 240_000]]
     >>> implied_demand(domestic, [999, 1999])
@@ -504,8 +512,8 @@ def implied_demand(domestic: Matrix, production: Column, *, n: int | None = None
     return out[:]
 
 
-def induced(inputs: Matrix, imports: Column, value_added: Column, final_demand: Column, production: Column, *,
-            n: int | None = None) -> Induced:
+def induced(inputs: "Matrix", imports: "Column", value_added: "Column", final_demand: "Column", production: "Column", *,
+            n: Optional[int] = None) -> Induced:
     """Value added and imports that a production induces. Asks 1, 2, 3, 8.
 
     `inputs`, `imports` and `value_added` are the sheets of those names that `coefficients` gives, in millionths.
@@ -521,7 +529,7 @@ def induced(inputs: Matrix, imports: Column, value_added: Column, final_demand: 
     return Induced(value[:], imported[:])
 
 
-def inverse(domestic: Matrix, budget: int = 1400, *, n: int | None = None) -> Inverse:
+def inverse(domestic: "Matrix", budget: int = 1400, *, n: Optional[int] = None) -> Inverse:
     """The Leontief inverse with its ratios, in millionths. Asks 1, 2, 7, 9. The budget holds for each column.
 
     >>> inverse([[500_000]])
@@ -535,10 +543,10 @@ def inverse(domestic: Matrix, budget: int = 1400, *, n: int | None = None) -> In
     return Inverse(cells[:], power[:], sensitivity[:], rounds.value)
 
 
-def row(sheet: Matrix, sector: int, *, n: int | None = None) -> list[int] | memoryview:
+def row(sheet: "Matrix", sector: int, *, n: Optional[int] = None) -> Union[list[int], memoryview]:
     """A sector's row: of a contiguous buffer of unsigned 64-bit numbers a memoryview of that stretch of it, of another sheet a list.
 
-    It is empty where n is not from 1 to 40, the sheet has not n * n cells or the sector is not below n.
+    It is empty if n is not from 1 to 40, the sheet has not n * n cells or the sector is not below n.
 
     >>> row([75_000, 150_000, 240_000, 240_000], 1)
     [240000, 240000]
@@ -553,7 +561,7 @@ def row(sheet: Matrix, sector: int, *, n: int | None = None) -> list[int] | memo
     return cells[stretch] if own is None else own[stretch]
 
 
-def _own_cells(sheet: Any) -> memoryview | None:
+def _own_cells(sheet: Any) -> Optional[memoryview]:
     """The caller's own cells in one piece, if they are a buffer of unsigned 64-bit numbers that has some."""
     try:
         view = memoryview(sheet)
