@@ -265,6 +265,8 @@ def _copied(packed: Any) -> ctypes.Array:
 
 def _taken(name: str, cells: Any, dimensions: int) -> _Cells:
     """The cells of what a caller gives, each checked, in at most so many dimensions."""
+    if isinstance(cells, (list, tuple)):
+        return _from_sequence(name, cells, dimensions)
     if isinstance(cells, (str, bytes, bytearray, Mapping, Set)):
         raise TypeError(f"{name} is a {type(cells).__name__}, whose members are no cells in order")
     numpy = sys.modules.get("numpy")
@@ -281,15 +283,15 @@ def _taken(name: str, cells: Any, dimensions: int) -> _Cells:
     raise TypeError(f"{name} is a {type(cells).__name__}, not a sequence, buffer or array of numbers")
 
 
-def _from_sequence(name: str, cells: list, dimensions: int) -> _Cells:
-    """Cells of a list. If matrices are allowed and its first member has a length, its members are rows."""
+def _from_sequence(name: str, cells: Sequence, dimensions: int) -> _Cells:
+    """Cells of a list or a tuple. If matrices are allowed and its first member has a length, its members are rows."""
     if dimensions == 2 and cells and hasattr(cells[0], "__len__"):
         return _from_rows(name, cells)
     shape = (len(cells),)
     return _Cells(_packed(name, cells, shape), shape)
 
 
-def _from_rows(name: str, rows: list) -> _Cells:
+def _from_rows(name: str, rows: Sequence) -> _Cells:
     taken = [_taken(f"{name}[{i}]", row, 1) for i, row in enumerate(rows)]
     (columns,) = taken[0].shape
     for i, row in enumerate(taken):
