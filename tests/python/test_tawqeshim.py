@@ -1,10 +1,12 @@
 """Tests of python/tawqeshim.py: refusals, what it takes as cells and what it does not, its library, and the worked table from its file to
 its page. Tests of numpy and pandas are skipped where these are not installed."""
 import ctypes
+import doctest
 import inspect
 import os
 import pickle
 import pydoc
+import re
 import shutil
 import subprocess
 import sys
@@ -119,9 +121,10 @@ class Sequences(Given):
                          [range(75_000, 150_001, 75_000), [240_000.0, 240_000]], deque(ROWS))
 
     def test_what_has_no_cells_in_order(self):
-        for demand in ({0: 625, 1: 1280}, OrderedDict([(0, 625), (1, 1280)]), {625, 1280}, frozenset(DEMAND), {0: 625, 1: 1280}.keys(),
-                       {0: 625, 1: 1280}.values(), "ab", b"ab", bytearray(b"ab"), iter(DEMAND), (k for k in DEMAND), None, 625, 1.0, object):
-            self.not_taken(TypeError, f"demand is an? ?{type(demand).__name__}|demand is a {type(demand).__name__}", demand)
+        named = {0: 625, 1: 1280}
+        for demand in (named, OrderedDict(named), {625, 1280}, frozenset(DEMAND), named.keys(), named.values(), named.items(), "ab", b"ab",
+                       bytearray(b"ab"), iter(DEMAND), (k for k in DEMAND), None, 625, 1.0, object):
+            self.not_taken(TypeError, f"demand is a {type(demand).__name__}, ", demand)
             self.sheet_not_taken(TypeError, "domestic is a ", demand)
 
     def test_every_argument_is_named(self):
@@ -263,8 +266,8 @@ class Numpy(Given):
         self.not_taken(ValueError, r"demand\[1\] is .*, not a whole number$", numpy.array([0, 1 + 2 * numpy.finfo("g").eps], dtype="g"),
                        *(numpy.array([0, cell], dtype="g") for cell in (nan, inf, 0.5)))
         self.not_taken(ValueError, r"demand\[1\] is 9007199254740992.0: a float above 2\*\*53", numpy.array([0, 2.0**53]))
-        self.sheet_not_taken(ValueError, r"domestic\[1\]\[0\] is -3, below 0$", numpy.array([[0, 0], [-3, 0]]), numpy.array([[0, 0], [-3, 0]], order="F"),
-                             numpy.array([[0, -3], [0, 0]]).T)
+        below = numpy.array([[0, 0], [-3, 0]])
+        self.sheet_not_taken(ValueError, r"domestic\[1\]\[0\] is -3, below 0$", below, numpy.asfortranarray(below), below.T.copy().T)
         with numpy.errstate(all="raise"):
             self.not_taken(ValueError, r"demand\[0\] is nan", numpy.array([nan, 0]), numpy.array([nan, 0], dtype="f4"))
         self.taken(numpy.array([625, 1280.0]) + -0.0)
@@ -320,7 +323,7 @@ class Pandas(Given):
         self.sheet_taken(frame, frame.astype("float64"), frame.astype({3: "float64"}), frame.astype("Int64"), frame.T.T, frame.values)
 
     def test_what_is_refused(self):
-        self.not_taken(ValueError, r"demand\[1\] is nan, not a whole number$", pandas.Series([625, None]), pandas.Series([625, float("nan")]))
+        self.not_taken(ValueError, r"demand\[1\] is nan, not a whole number$", pandas.Series([625, None]))
         self.not_taken(TypeError, r"demand\[1\] is <NA>, not a whole number$", pandas.Series([625, None], dtype="Int64"))
         self.not_taken(ValueError, r"demand\[0\] is -1", pandas.Series([-1, 2]), pandas.Series([-1, 2], dtype="Int64"))
         self.not_taken(ValueError, "demand has 2 dimensions, not 1$", pandas.DataFrame({"a": DEMAND}), pandas.DataFrame([DEMAND]))
@@ -375,7 +378,8 @@ class Library(unittest.TestCase):
             for text, code in [("is another library, or one before version 1.0.0", "int other;"),
                                (f"has version 0.9.1, and this module has {t.__version__}", 'const char tawqeshim_version[] = "0.9.1";')]:
                 built = Path(place) / "lib.so"
-                subprocess.run([os.environ.get("CC", "gcc"), "-shared", "-fPIC", "-x", "c", "-o", built, "-"], input=code.encode(), check=True)
+                compiler = os.environ.get("CC", "gcc")
+                subprocess.run([compiler, "-shared", "-fPIC", "-x", "c", "-o", built, "-"], input=code.encode(), check=True)
                 self.not_imported(text, built)
 
     def test_no_import_of_numpy(self):
@@ -402,6 +406,34 @@ class Help(unittest.TestCase):
         for name, thing in inspect.getmembers(t, lambda thing: inspect.isfunction(thing) and thing.__module__ == t.__name__):
             missing = set(inspect.signature(thing).parameters) - set(thing.__annotations__)
             self.assertFalse(missing or "return" not in thing.__annotations__, name)
+
+
+class Documents(unittest.TestCase):
+    """What the documents say that can be held against the repository."""
+
+    def test_examples(self):
+        for name in ("README.md", "docs/CALLS.md"):
+            self.assertEqual(doctest.testfile(str(ROOT / name), module_relative=False).failed, 0)
+
+    def test_the_worked_file_and_its_page(self):
+        model = (ROOT / "docs/MODEL.md").read_text()
+        dump = re.findall(r"^    [ \d]\d      ((?:[0-9a-f]{2} )+) *", model, re.MULTILINE)
+        self.assertEqual(bytes.fromhex("".join(dump)), (ROOT / "examples/worked.table").read_bytes())
+        page = "".join(f"    {line}\n" for line in (ROOT / "crates/roadsheet/stdout").read_text().splitlines())
+        for name in ("README.md", "docs/MODEL.md"):
+            self.assertIn(page, (ROOT / name).read_text())
+
+    def test_the_definitions_that_the_model_names(self):
+        seen = 0
+        for paragraph in (ROOT / "docs/MODEL.md").read_text().split("\n\n"):
+            source = None
+            for word in re.findall("`([^` ]+)`", paragraph if paragraph.startswith("Defined: ") else ""):
+                if word.endswith(".antt"):
+                    source = (ROOT / (word if "/" in word else f"crates/model/specs/{word}")).read_text()
+                else:
+                    self.assertRegex(source, rf"(?m)^ *(\w+ )*{word}\b", f"{word} of MODEL.md")
+                    seen += 1
+        self.assertGreater(seen, 100)
 
 
 if __name__ == "__main__":
