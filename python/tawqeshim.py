@@ -1,12 +1,23 @@
 """Tawqeshim for Python: input-output sheets, production, prices and multipliers of a region, in whole numbers.
 
-Each function is a call of the shared library libtawqeshim.so, whose functions are proved. The library is target/libtawqeshim.so of the
-repository, which scripts/shared-library builds, or the file that the environment variable TAWQESHIM_LIBRARY names.
+Each function is a call of the shared library libtawqeshim.so, whose functions are proved. scripts/shared-library builds it as
+target/libtawqeshim.so of the repository; the environment variable TAWQESHIM_LIBRARY may name another file.
 
-A table has n sectors, 1 to 40, counted from 0. A matrix is one list of n * n cells, row by row. Amounts are whole numbers of one money
-unit, shares and coefficients are whole millionths, and quotients are rounded down. The worked table has two sectors:
+A table has n sectors, 1 to 40, counted from 0. Amounts are whole numbers of one money unit. Shares and coefficients are whole millionths,
+and every quotient is rounded down.
 
->>> flows = [100, 400, 300, 600]
+    coefficients      from a table to its sheets: coefficients, shares, and the demand for domestic goods
+    production        from a demand for domestic goods to production
+    price             from direct price rises to settled ones
+    implied_demand    from production back to the demand behind it
+    induced           value added and imports that a production induces
+    inverse, row      the Leontief inverse with its ratios; a row of a sheet
+    read_table, page  from the bytes of a table file to its cells, or to the printed sheet
+
+The worked table has two sectors:
+
+>>> flows = [[100, 400],
+...          [300, 600]]
 >>> final_demand, exports, imports = [500, 900], [250, 560], [250, 360]
 >>> sheets = coefficients(flows, final_demand, exports, imports, [600, 1000], [1000, 2000])
 >>> sheets.domestic, sheets.demand
@@ -17,29 +28,50 @@ Production(amounts=[999, 1999], rounds=9)
 >>> induced(sheets.inputs, sheets.imports, sheets.value_added, final_demand, made.amounts)
 Induced(value_added=[599, 999], imports=[249, 359])
 
-Cells are given as a list or another sequence of whole numbers, or as a buffer, as array('Q') or a memoryview of one. A buffer of
-unsigned 64-bit numbers is handed over without a copy if it is contiguous and writable, and is never changed; others are copied. Results
-are lists. The number of sectors is taken from the length of a column; `n` states it. `budget` is the rounds allowed, 1,400 unless told.
+What goes in
+    A column is n numbers in the order of the sectors. A matrix is n rows of n numbers, or its n * n numbers in one piece, row by row.
+    Both are taken from a list or another sequence, from a buffer of numbers, as array('q') or a memoryview, and from anything that numpy
+    makes an array of, as a Series or a DataFrame of pandas; labels are not looked at. numpy is never imported here.
+    A number is an integer from 0 to 2**64 - 1, or a float that is whole and below 2**53. A bool is no number. Anything else, be it a
+    mapping, a set, a string, a masked or missing cell, a fraction or a number below 0, raises TypeError or ValueError, which names the
+    argument and the cell:
 
-A call asks questions of what it is given. The first that is answered no raises Refused, with the number of the question and a place:
+    >>> production(sheets.domestic, [625, -1])
+    Traceback (most recent call last):
+    ValueError: demand[1] is -1, below 0
 
->>> production(sheets.domestic, sheets.demand, budget=8)
-Traceback (most recent call last):
-tawqeshim.Refused: question 9, place 0: do the rounds settle within the budget?
+    Cells are copied for the call and never changed.
+
+What comes out
+    Lists of integers. A matrix is one list, row by row; `row` takes a row out of it.
+
+n and budget
+    The number of sectors is taken from the length of a column, or from the sheet where there is none; `n` states it. `budget` is the
+    number of rounds allowed, 1,400 unless stated.
+
+Refusals
+    A call asks questions of what it is given. The first whose answer is no raises Refused, with the number of the question and a place:
+
+    >>> production(sheets.domestic, sheets.demand, budget=8)
+    Traceback (most recent call last):
+    tawqeshim.Refused: question 9, place 0: do the rounds settle within the budget?
 """
 import ctypes
 import math
-import operator
 import os
+import reprlib
+import sys
 from array import array
-from collections import namedtuple
+from collections.abc import Mapping, Sequence, Set
+from numbers import Integral
 from pathlib import Path
+from typing import Any, NamedTuple, NoReturn, Optional, Protocol, Union
 
 __version__ = "1.0.0"
 __all__ = ["QUESTIONS", "Refused", "Coefficients", "Production", "Prices", "Induced", "Inverse", "Table", "coefficients", "production",
            "price", "implied_demand", "induced", "inverse", "row", "read_table", "page"]
 
-QUESTIONS = {
+QUESTIONS: dict[int, str] = {
     1: "is n from 1 to 40?",
     2: "has every list its exact length?",
     3: "is every amount within 1,000,000,000 and every share within one?",
@@ -59,253 +91,488 @@ QUESTIONS = {
 
 
 class Refused(Exception):
-    """A refusal: the number of the first question answered no, its place, and the question."""
+    """A refusal: the number of the first question whose answer is no, its place, and the question."""
 
-    def __init__(self, number, place):
+    def __init__(self, number: int, place: int) -> None:
         super().__init__(number, place)
         self.number = number
         self.place = place
         self.question = QUESTIONS[number]
 
-    def __str__(self):
+    def __str__(self) -> str:
         return f"question {self.number}, place {self.place}: {self.question}"
 
 
-# The sheets of a table: coefficients of inputs, n * n, and of value added; shares of imports; domestic coefficients, n * n; demand for
-# domestic goods.
-Coefficients = namedtuple("Coefficients", "inputs value_added imports domestic demand")
-Production = namedtuple("Production", "amounts rounds")
-Prices = namedtuple("Prices", "rises rounds")
-Induced = namedtuple("Induced", "value_added imports")
-# The Leontief inverse, n * n cells, its power and sensitivity of dispersion, and the largest count of rounds of a column.
-Inverse = namedtuple("Inverse", "cells power sensitivity rounds")
-# What a table file holds, and how many cells it names.
-Table = namedtuple("Table", "sectors named flows final_demand exports imports value_added production rises")
+class Coefficients(NamedTuple):
+    """The sheets of a table: coefficients and shares in millionths, and the demand for domestic goods in the table's money unit."""
+
+    inputs: list[int]
+    value_added: list[int]
+    imports: list[int]
+    domestic: list[int]
+    demand: list[int]
 
 
-def _load():
+class Production(NamedTuple):
+    """A settled production, and the count of its rounds."""
+
+    amounts: list[int]
+    rounds: int
+
+
+class Prices(NamedTuple):
+    """Settled price rises in millionths, and the count of their rounds."""
+
+    rises: list[int]
+    rounds: int
+
+
+class Induced(NamedTuple):
+    """Value added and imports that a production induces."""
+
+    value_added: list[int]
+    imports: list[int]
+
+
+class Inverse(NamedTuple):
+    """The Leontief inverse, n * n cells; its power and sensitivity of dispersion; the largest count of rounds of a column."""
+
+    cells: list[int]
+    power: list[int]
+    sensitivity: list[int]
+    rounds: int
+
+
+class Table(NamedTuple):
+    """What a table file holds, and how many cells it names."""
+
+    sectors: int
+    named: int
+    flows: list[int]
+    final_demand: list[int]
+    exports: list[int]
+    imports: list[int]
+    value_added: list[int]
+    production: list[int]
+    rises: list[int]
+
+
+class SupportsArray(Protocol):
+    """An array of numpy, or what numpy makes one of."""
+
+    def __array__(self, dtype: Any = None) -> Any: ...
+
+
+# What a caller may give; a buffer of numbers counts as a sequence of them.
+Column = Union[Sequence[float], SupportsArray]
+Matrix = Union[Column, Sequence[Column]]
+
+_SECTORS = 40
+_PAGE = 2851
+_LARGEST = 2**64 - 1
+_EXACT_FLOATS = 2.0**53
+
+
+# ---- the library
+
+def _load() -> ctypes.CDLL:
+    """The library, of this module's version."""
     built = Path(__file__).resolve().parent.parent / "target" / "libtawqeshim.so"
-    path = os.environ.get("TAWQESHIM_LIBRARY") or str(built)
-    if not os.path.exists(path):
-        raise ImportError(f"no library at {path}: scripts/shared-library builds it, and TAWQESHIM_LIBRARY may name another")
-    # A PyDLL keeps other threads of Python waiting, so none changes a buffer during a call. No call takes long.
-    return ctypes.PyDLL(path)
+    path = Path(os.environ.get("TAWQESHIM_LIBRARY") or built).absolute()
+    advice = "run scripts/shared-library to build it, or set TAWQESHIM_LIBRARY to the path of a library that was built"
+    if not path.is_file():
+        raise ImportError(f"there is no library {path}: {advice}", path=str(path))
+    try:
+        library = ctypes.CDLL(str(path))
+    except OSError as error:
+        raise ImportError(f"{path} cannot be loaded as a library ({error}): {advice}", path=str(path)) from None
+    version = _version(library)
+    if version is None:
+        raise ImportError(f"{path} is another library, or one before version 1.0.0: {advice}", path=str(path))
+    if version != __version__:
+        raise ImportError(f"{path} has version {version}, and this module has {__version__}: {advice}", path=str(path))
+    return library
+
+
+def _version(library: ctypes.CDLL) -> Optional[str]:
+    """The version that the library states, if it is a library of Tawqeshim."""
+    try:
+        text = ctypes.c_char.in_dll(library, "tawqeshim_version")
+    except ValueError:
+        return None
+    return ctypes.string_at(ctypes.addressof(text)).decode("ascii", "replace")
 
 
 _LIBRARY = _load()
-_SECTORS = 40
-_PAGE = 2851
-_MOST = 2**64 - 1
-_TYPES = {"Q": (ctypes.c_uint64, _MOST, ("Q", "L")), "B": (ctypes.c_uint8, 255, ("B",))}
 
 
-def _whole(name, value, most):
-    """A whole number from 0 to `most`."""
-    try:
-        number = operator.index(value)
-    except TypeError:
-        raise TypeError(f"{name} is {value!r}, not a whole number") from None
+# ---- numbers
+
+def _whole(name: str, value: Any, largest: int = _LARGEST) -> int:
+    """The value as an integer from 0 to the largest; otherwise an error that names it."""
+    if isinstance(value, float):
+        value = _whole_float(name, value)
+    if not isinstance(value, Integral) or isinstance(value, bool):
+        raise TypeError(f"{name} is {reprlib.repr(value)}, not a whole number")
+    number = int(value)
     if number < 0:
-        raise OverflowError(f"{name} is {number}, below 0")
-    if number > most:
-        raise OverflowError(f"{name} is {number}, above {most}")
+        raise ValueError(f"{name} is {_shown(number)}, below 0")
+    if number > largest:
+        raise ValueError(f"{name} is {_shown(number)}, above {largest}")
     return number
 
 
-def _size(n, column):
-    return _whole("n", len(column) if n is None else n, _MOST)
+def _whole_float(name: str, value: float) -> int:
+    if not value.is_integer():
+        raise ValueError(f"{name} is {value}, not a whole number")
+    if value >= _EXACT_FLOATS:
+        raise ValueError(f"{name} is {value}: a float above 2**53 need not be the number that was meant; give an integer")
+    return int(value)
 
 
-def _side(n, sheet):
-    """The number of sectors of a sheet: the root of its count of cells, unless n states it."""
-    if n is None:
-        try:
-            n = math.isqrt(memoryview(sheet).nbytes // memoryview(sheet).itemsize)
-        except TypeError:
-            n = math.isqrt(len(sheet))
-    return _whole("n", n, _MOST)
+def _shown(number: int) -> str:
+    """The number, unless it is too long to read."""
+    bits = number.bit_length()
+    return str(number) if bits <= 128 else f"a number of {bits} bits"
 
 
-def _fits(view, code):
-    """Whether a buffer holds numbers of the type, one after the other."""
-    kind, _, formats = _TYPES[code]
-    return view.itemsize == ctypes.sizeof(kind) and view.format.lstrip("@=<") in formats and view.c_contiguous
+# ---- cells
+
+class _Cells(NamedTuple):
+    """A buffer of unsigned 64-bit numbers, one after the other, and its dimensions: one, or rows and columns."""
+
+    packed: Any
+    shape: tuple[int, ...]
 
 
-def _lent(name, cells, code="Q"):
-    """The cells for the library: the caller's own buffer where it can be, else a copy."""
-    kind, most, _ = _TYPES[code]
+def _column(name: str, cells: "Column") -> ctypes.Array:
+    """A column for the library."""
+    return _copied(_taken(name, cells, 1).packed)
+
+
+def _matrix(name: str, cells: "Matrix") -> ctypes.Array:
+    """A matrix for the library, row by row. One that was given in rows has as many rows as columns."""
+    taken = _taken(name, cells, 2)
+    if taken.shape[0] != taken.shape[-1]:
+        raise ValueError(f"{name} has {taken.shape[0]} rows of {taken.shape[1]} cells: a matrix has as many rows as columns")
+    return _copied(taken.packed)
+
+
+def _copied(packed: Any) -> ctypes.Array:
+    return (ctypes.c_uint64 * (memoryview(packed).nbytes // 8)).from_buffer_copy(packed)
+
+
+def _taken(name: str, cells: Any, dimensions: int) -> _Cells:
+    """The cells of what a caller gives, each checked, in at most so many dimensions."""
+    if isinstance(cells, (list, tuple)):
+        return _from_sequence(name, cells, dimensions)
+    if isinstance(cells, (str, bytes, bytearray, Mapping, Set)):
+        raise TypeError(f"{name} is a {type(cells).__name__}, whose members are no cells in order")
+    numpy = sys.modules.get("numpy")
+    if numpy and (hasattr(cells, "__array__") or hasattr(cells, "__array_interface__")):
+        return _from_array(name, cells, dimensions, numpy)
     try:
         view = memoryview(cells)
     except TypeError:
         view = None
-    if view is None or not _fits(view, code):
-        view = _copied(name, list(cells), code, most)
-    whole = kind * (view.nbytes // view.itemsize)
-    if view.nbytes and not view.readonly:
-        own = whole.from_buffer(view)
-        if ctypes.addressof(own) % ctypes.sizeof(kind) == 0:
-            return own
-    return whole.from_buffer_copy(view)
+    if view is not None:
+        return _from_buffer(name, view, dimensions)
+    if isinstance(cells, Sequence):
+        return _from_sequence(name, list(cells), dimensions)
+    raise TypeError(f"{name} is a {type(cells).__name__}, not a sequence, buffer or array of numbers")
 
 
-def _copied(name, cells, code, most):
-    try:
-        return memoryview(array(code, cells))
-    except (TypeError, OverflowError):
-        return memoryview(array(code, [_whole(f"{name}[{k}]", cell, most) for k, cell in enumerate(cells)]))
+def _from_sequence(name: str, cells: Sequence, dimensions: int) -> _Cells:
+    """Cells of a list or a tuple. If matrices are allowed and its first member has a length, its members are rows."""
+    if dimensions == 2 and cells and hasattr(cells[0], "__len__"):
+        return _from_rows(name, cells)
+    shape = (len(cells),)
+    return _Cells(_packed(name, cells, shape), shape)
 
 
-def _columns(n, count):
-    """Output columns. Their length where n is above 40 does not matter: question 1 is asked first."""
-    return [(ctypes.c_uint64 * min(n, _SECTORS))() for _ in range(count)]
+def _from_rows(name: str, rows: Sequence) -> _Cells:
+    taken = [_taken(f"{name}[{i}]", row, 1) for i, row in enumerate(rows)]
+    (columns,) = taken[0].shape
+    for i, row in enumerate(taken):
+        if row.shape != (columns,):
+            raise ValueError(f"{name}[{i}] has {row.shape[0]} cells, and {name}[0] has {columns}")
+    return _Cells(b"".join(row.packed for row in taken), (len(rows), columns))
 
 
-def _matrix(n):
+def _from_buffer(name: str, view: memoryview, dimensions: int) -> _Cells:
+    """Cells of a buffer of integers of any width, or of floats, in the order of its rows."""
+    _check_dimensions(name, view.ndim, dimensions)
+    code = _native_code(view)
+    if code is None:
+        raise TypeError(f"{name} is a buffer of format {view.format!r}, not of numbers")
+    numbers = array(code, view.tobytes())
+    return _Cells(numbers if code == "Q" else _packed(name, numbers, view.shape), view.shape)
+
+
+def _native_code(view: memoryview) -> Optional[str]:
+    """The code that `array` has for a buffer's numbers: by its letter whether they have a sign, by their size their width."""
+    letter = view.format.lstrip("@=<")
+    if letter in ("f", "d"):
+        return letter
+    if letter not in tuple("bBhHiIlLqQnN"):
+        return None
+    code = {1: "B", 2: "H", 4: "I", 8: "Q"}[view.itemsize]
+    return code if letter.isupper() else code.lower()
+
+
+def _from_array(name: str, given: Any, dimensions: int, numpy: Any) -> _Cells:
+    """Cells of an array, all of them checked and converted at once by numpy."""
+    cells = numpy.asarray(given)
+    _check_dimensions(name, cells.ndim, dimensions)
+    if isinstance(given, numpy.ma.MaskedArray) and numpy.ma.is_masked(given):
+        masked = int(numpy.ma.getmaskarray(given).argmax())
+        raise ValueError(f"{_place(name, cells.shape, masked)} is masked")
+    kind = cells.dtype.kind
+    if kind == "O":
+        return _from_sequence(name, cells.tolist(), dimensions)
+    if kind not in "iuf":
+        raise TypeError(f"{name} is an array of {cells.dtype}, not of numbers")
+    if kind != "u":
+        wrong = cells < 0 if kind == "i" else _wrong_floats(cells, numpy)
+        if wrong.any():
+            k = int(wrong.argmax())
+            _refuse_cell(_place(name, cells.shape, k), cells.flat[k])
+    return _Cells(numpy.ascontiguousarray(cells, dtype=numpy.uint64), cells.shape)
+
+
+def _wrong_floats(cells: Any, numpy: Any) -> Any:
+    """Where floats of any width are no whole number from 0 to 2**53 - 1. A comparison with nan is false."""
+    with numpy.errstate(all="ignore"):
+        floats = cells.astype(numpy.float64)
+        return ~((floats == cells) & (floats >= 0) & (floats < _EXACT_FLOATS) & (floats == numpy.floor(floats)))
+
+
+def _refuse_cell(name: str, value: Any) -> NoReturn:
+    """The error for a number of numpy that is known to be wrong."""
+    _whole(name, float(value) if value.dtype.kind == "f" else int(value))
+    raise ValueError(f"{name} is {value}, not a whole number")
+
+
+def _check_dimensions(name: str, given: int, most: int) -> None:
+    if not 1 <= given <= most:
+        wanted = "1" if most == 1 else "1 or 2"
+        raise ValueError(f"{name} has {given} dimensions, not {wanted}")
+
+
+def _place(name: str, shape: tuple[int, ...], k: int) -> str:
+    """The name of the cell that comes after k others, row by row."""
+    return f"{name}[{k}]" if len(shape) == 1 else f"{name}[{k // shape[1]}][{k % shape[1]}]"
+
+
+def _packed(name: str, numbers: Any, shape: tuple[int, ...]) -> array:
+    """A list or an array of numbers as unsigned 64-bit numbers, each checked."""
+    if set(map(type, numbers)) <= {int}:
+        try:
+            return array("Q", numbers)
+        except OverflowError:
+            pass  # the number is named below
+    return array("Q", [_whole(_place(name, shape, k), number) for k, number in enumerate(numbers)])
+
+
+# ---- calls
+
+def _size(n: Optional[int], column: ctypes.Array) -> int:
+    """The number of sectors: the length of a column, unless n states it."""
+    return _whole("n", len(column) if n is None else n)
+
+
+def _side(n: Optional[int], sheet: ctypes.Array) -> int:
+    """The number of sectors of a matrix: the root of its count of cells, unless n states it."""
+    return _whole("n", math.isqrt(len(sheet)) if n is None else n)
+
+
+def _new_column(n: int) -> ctypes.Array:
+    """An output column. Its length where n is above 40 does not matter: question 1 is asked first."""
+    return (ctypes.c_uint64 * min(n, _SECTORS))()
+
+
+def _new_matrix(n: int) -> ctypes.Array:
     return (ctypes.c_uint64 * (min(n, _SECTORS) ** 2))()
 
 
-def _budget(budget):
+def _budget(budget: int) -> ctypes.c_uint32:
     return ctypes.c_uint32(_whole("budget", budget, 2**32 - 1))
 
 
-def _call(name, *words):
-    """Calls the library. A number is a size; an array is its start and its length."""
-    given = []
+def _file(file: Any) -> ctypes.Array:
+    """The bytes of a file for the library."""
+    try:
+        view = memoryview(file)
+    except TypeError:
+        raise TypeError(f"file is a {type(file).__name__}, not the bytes of a table file") from None
+    if view.itemsize != 1:
+        raise TypeError(f"file is a buffer of format {view.format!r}, not of bytes")
+    return (ctypes.c_uint8 * view.nbytes).from_buffer_copy(view.tobytes())
+
+
+def _call(name: str, *words: Any) -> None:
+    """Calls the library. An int is a size; an array is its start and its length."""
+    given: list[Any] = []
     for word in words:
         given.append(ctypes.c_size_t(word) if isinstance(word, int) else word)
         if isinstance(word, ctypes.Array):
             given.append(ctypes.c_size_t(len(word)))
-    return getattr(_LIBRARY, "tawqeshim_" + name)(*given)
+    getattr(_LIBRARY, "tawqeshim_" + name)(*given)
 
 
-def _asked(name, *words, counts=()):
-    """The number and the place that a call gives. The caller's buffers are let go before a refusal is raised."""
+def _ask(name: str, *words: Any, counts: Sequence[Any] = ()) -> None:
+    """Calls the library, and raises its refusal."""
     number, place = ctypes.c_uint8(), ctypes.c_size_t()
     _call(name, *words, *map(ctypes.byref, (number, place, *counts)))
-    return number.value, place.value
+    if number.value:
+        raise Refused(number.value, place.value)
 
 
-def _accept(number, place):
-    if number:
-        raise Refused(number, place)
+def coefficients(flows: "Matrix", final_demand: "Column", exports: "Column", imports: "Column", value_added: "Column",
+                 production: "Column", *, n: Optional[int] = None) -> Coefficients:
+    """From a table to its sheets. Asks 1 to 7.
 
+    `flows` is x: in row i and column j, what sector j buys from sector i. Imports are positive numbers. Each column of flows and value
+    added makes up production, and each row of flows, final demand and exports makes up production and imports, to the unit.
 
-def coefficients(flows, final_demand, exports, imports, value_added, production, *, n=None):
-    """From a table to its sheets. Asks 1 to 7. `flows` is x: in row i and column j, what sector j buys from sector i.
-
-    >>> coefficients([100, 400, 300, 600], [500, 900], [250, 560], [250, 360], [600, 1000], [1000, 2000]).imports
+    >>> sheets = coefficients([[100, 400], [300, 600]], [500, 900], [250, 560], [250, 360], [600, 1000], [1000, 2000])
+    >>> sheets.imports
     [250000, 200000]
-    >>> coefficients([100, 400, 300, 600], [500, 900], [250, 560], [250, 360], [600, 1000], [1000, 2001])
+    >>> sheets.demand
+    [625, 1280]
+    >>> coefficients([[100, 400], [300, 600]], [500, 900], [250, 560], [250, 360], [600, 1000], [1000, 2001])
     Traceback (most recent call last):
     tawqeshim.Refused: question 4, place 1: does every column balance?
-    >>> coefficients([], [], [], [], [], [])
-    Traceback (most recent call last):
-    tawqeshim.Refused: question 1, place 0: is n from 1 to 40?
     """
-    n = _size(n, final_demand)
-    a, d = _matrix(n), _matrix(n)
-    v, m, f = _columns(n, 3)
-    _accept(*_asked("coefficients", n, _lent("flows", flows), _lent("final_demand", final_demand),
-                    _lent("exports", exports), _lent("imports", imports), _lent("value_added", value_added),
-                    _lent("production", production), a, v, m, d, f))
+    columns = [_column("final_demand", final_demand), _column("exports", exports), _column("imports", imports),
+               _column("value_added", value_added), _column("production", production)]
+    n = _size(n, columns[0])
+    a, d = _new_matrix(n), _new_matrix(n)
+    v, m, f = _new_column(n), _new_column(n), _new_column(n)
+    _ask("coefficients", n, _matrix("flows", flows), *columns, a, v, m, d, f)
     return Coefficients(a[:], v[:], m[:], d[:], f[:])
 
 
-def _settled(name, domestic, label, starts, budget, n):
+def _settled(call: str, domestic: "Matrix", name: str, start: "Column", budget: int, n: Optional[int]) -> tuple[list[int], int]:
+    starts = _column(name, start)
     n = _size(n, starts)
-    out, work = _columns(n, 2)
+    out, work = _new_column(n), _new_column(n)
     rounds = ctypes.c_uint32()
-    _accept(*_asked(name, n, _lent("domestic", domestic), _lent(label, starts), _budget(budget), out, work,
-                    counts=[rounds]))
+    _ask(call, n, _matrix("domestic", domestic), starts, _budget(budget), out, work, counts=[rounds])
     return out[:], rounds.value
 
 
-def production(domestic, demand, budget=1400, *, n=None):
+def production(domestic: "Matrix", demand: "Column", budget: int = 1400, *, n: Optional[int] = None) -> Production:
     """Production from a demand for domestic goods. Asks 1, 2, 7, 8, 9.
 
+    Against the exact balance no sector is too high, and all n sectors together lack less than 20 * n.
+
+    >>> production([[75_000, 150_000], [240_000, 240_000]], [625, 1280])
+    Production(amounts=[999, 1999], rounds=9)
     >>> production([950_000], [1])
     Production(amounts=[1], rounds=1)
     >>> production([950_001], [1])
     Traceback (most recent call last):
     tawqeshim.Refused: question 7, place 0: is every column sum of domestic coefficients at most 950,000?
-    >>> production([75_000, 150_000, 240_000, 240_000], [0, 0])
-    Production(amounts=[0, 0], rounds=1)
+    >>> production([[75_000, 150_000], [240_000, 240_000]], {0: 625, 1: 1280})
+    Traceback (most recent call last):
+    TypeError: demand is a dict, whose members are no cells in order
     """
     return Production(*_settled("production", domestic, "demand", demand, budget, n))
 
 
-def price(domestic, rises, budget=1400, *, n=None):
+def price(domestic: "Matrix", rises: "Column", budget: int = 1400, *, n: Optional[int] = None) -> Prices:
     """Price rises from direct rises, both in millionths. Asks 1, 2, 7, 8, 9.
 
-    >>> price([75_000, 150_000, 240_000, 240_000], [10_000, 0])
+    Against the exact balance no rise is too high, and each lacks less than 20 millionths.
+
+    >>> price([[75_000, 150_000], [240_000, 240_000]], [10_000, 0])
     Prices(rises=[11393, 2248], rounds=10)
     """
     return Prices(*_settled("price", domestic, "rises", rises, budget, n))
 
 
-def implied_demand(domestic, production, *, n=None):
-    """The demand for domestic goods behind a production, as a list. Asks 1, 2, 7, 8, 10.
+def implied_demand(domestic: "Matrix", production: "Column", *, n: Optional[int] = None) -> list[int]:
+    """The demand for domestic goods behind a production. Asks 1, 2, 7, 8, 10.
 
-    >>> implied_demand([75_000, 150_000, 240_000, 240_000], [999, 1999])
+    Of a production that `production` gave it is the demand that it was given. Another production can have the same demand behind it:
+
+    >>> domestic = [[75_000, 150_000], [240_000, 240_000]]
+    >>> implied_demand(domestic, [999, 1999])
     [625, 1280]
-    >>> implied_demand([75_000, 150_000, 240_000, 240_000], [1000, 2000])
+    >>> implied_demand(domestic, [1000, 2000])
     [625, 1280]
-    >>> implied_demand([75_000, 150_000, 240_000, 240_000], [0, 1000])
+    >>> implied_demand(domestic, [0, 1000])
     Traceback (most recent call last):
     tawqeshim.Refused: question 10, place 0: does the production leave every sector's demand at 0 or above?
     """
-    n = _size(n, production)
-    (out,) = _columns(n, 1)
-    _accept(*_asked("implied_demand", n, _lent("domestic", domestic), _lent("production", production), out))
+    amounts = _column("production", production)
+    n = _size(n, amounts)
+    out = _new_column(n)
+    _ask("implied_demand", n, _matrix("domestic", domestic), amounts, out)
     return out[:]
 
 
-def induced(inputs, imports, value_added, final_demand, production, *, n=None):
-    """Value added and imports that a production induces, from input coefficients and shares. Asks 1, 2, 3, 8."""
-    n = _size(n, production)
-    value, imported = _columns(n, 2)
-    _accept(*_asked("induced", n, _lent("inputs", inputs), _lent("imports", imports),
-                    _lent("value_added", value_added), _lent("final_demand", final_demand), _lent("production", production),
-                    value, imported))
+def induced(inputs: "Matrix", imports: "Column", value_added: "Column", final_demand: "Column", production: "Column", *,
+            n: Optional[int] = None) -> Induced:
+    """Value added and imports that a production induces. Asks 1, 2, 3, 8.
+
+    `inputs`, `imports` and `value_added` are the sheets of those names that `coefficients` gives, in millionths.
+
+    >>> induced([[100_000, 200_000], [300_000, 300_000]], [250_000, 200_000], [600_000, 500_000], [500, 900], [999, 1999])
+    Induced(value_added=[599, 999], imports=[249, 359])
+    """
+    columns = [_column("imports", imports), _column("value_added", value_added), _column("final_demand", final_demand),
+               _column("production", production)]
+    n = _size(n, columns[-1])
+    value, imported = _new_column(n), _new_column(n)
+    _ask("induced", n, _matrix("inputs", inputs), *columns, value, imported)
     return Induced(value[:], imported[:])
 
 
-def inverse(domestic, budget=1400, *, n=None):
-    """The Leontief inverse with its ratios. Asks 1, 2, 7, 9. The budget holds for each column.
+def inverse(domestic: "Matrix", budget: int = 1400, *, n: Optional[int] = None) -> Inverse:
+    """The Leontief inverse with its ratios, in millionths. Asks 1, 2, 7, 9. The budget holds for each column.
 
-    >>> inverse([500_000])
+    >>> inverse([[500_000]])
     Inverse(cells=[1999999], power=[1000000], sensitivity=[1000000], rounds=21)
     """
-    n = _side(n, domestic)
-    sheet, rounds = _matrix(n), ctypes.c_uint32()
-    power, sensitivity = _columns(n, 2)
-    _accept(*_asked("inverse", n, _lent("domestic", domestic), _budget(budget), sheet, power, sensitivity,
-                    counts=[rounds]))
-    return Inverse(sheet[:], power[:], sensitivity[:], rounds.value)
+    sheet = _matrix("domestic", domestic)
+    n = _side(n, sheet)
+    cells, power, sensitivity = _new_matrix(n), _new_column(n), _new_column(n)
+    rounds = ctypes.c_uint32()
+    _ask("inverse", n, sheet, _budget(budget), cells, power, sensitivity, counts=[rounds])
+    return Inverse(cells[:], power[:], sensitivity[:], rounds.value)
 
 
-def row(sheet, sector, *, n=None):
-    """A sector's row: of a buffer that is handed over as it is, a memoryview of that stretch of it; of another sheet a list.
+def row(sheet: "Matrix", sector: int, *, n: Optional[int] = None) -> Union[list[int], memoryview]:
+    """A sector's row: of a contiguous buffer of unsigned 64-bit numbers a memoryview of that stretch of it, of another sheet a list.
 
-    It is empty where n is not from 1 to 40, the sheet has not n * n cells or the sector is not below n.
+    It is empty if n is not from 1 to 40, the sheet has not n * n cells or the sector is not below n.
 
     >>> row([75_000, 150_000, 240_000, 240_000], 1)
     [240000, 240000]
     >>> row([75_000, 150_000, 240_000, 240_000], 2)
     []
     """
+    cells = _matrix("sheet", sheet)
     start, length = ctypes.c_size_t(), ctypes.c_size_t()
-    _call("row", _side(n, sheet), _lent("sheet", sheet), _whole("sector", sector, _MOST), *map(ctypes.byref, (start, length)))
+    _call("row", _side(n, cells), cells, _whole("sector", sector), *map(ctypes.byref, (start, length)))
     stretch = slice(start.value, start.value + length.value)
+    own = _own_cells(sheet)
+    return cells[stretch] if own is None else own[stretch]
+
+
+def _own_cells(sheet: Any) -> Optional[memoryview]:
+    """The caller's own cells in one piece, if they are a buffer of unsigned 64-bit numbers that has some."""
     try:
         view = memoryview(sheet)
     except TypeError:
-        return list(sheet)[stretch]
-    return view.cast("B").cast("Q")[stretch] if _fits(view, "Q") and view.format in ("Q", "L") else list(sheet)[stretch]
+        return None
+    fits = view.format in ("Q", "L") and view.itemsize == 8 and view.c_contiguous and view.nbytes
+    return view.cast("B").cast("Q") if fits else None
 
 
-def read_table(file):
+def read_table(file: bytes) -> Table:
     """Reads the bytes of a table file. Asks 11 to 15 of each record in turn.
 
     >>> read_table(bytes([1, 2, 3, 1, 0, 0, 1, 244, 8]))[:4]
@@ -314,20 +581,20 @@ def read_table(file):
     Traceback (most recent call last):
     tawqeshim.Refused: question 15, place 0: does kind 8 come, with no byte after it?
     """
-    x, columns = _matrix(_SECTORS), _columns(_SECTORS, 6)
+    x, columns = _new_matrix(_SECTORS), [_new_column(_SECTORS) for _ in range(6)]
     marks = (ctypes.c_uint64 * 46)()
     sectors, named = ctypes.c_size_t(), ctypes.c_size_t()
-    _accept(*_asked("read_table", _lent("file", file, "B"), x, *columns, marks, counts=[sectors, named]))
+    _ask("read_table", _file(file), x, *columns, marks, counts=[sectors, named])
     n = sectors.value
     return Table(n, named.value, x[:n * n], *(column[:n] for column in columns))
 
 
-def page(file):
-    """The printed sheet of a table file's bytes, as bytes. A refusal is its one line.
+def page(file: bytes) -> bytes:
+    """The printed sheet of a table file's bytes. A file or a table that is refused is one line, with the number and the place.
 
     >>> page(b"")
     b'refused 15 0\\n'
     """
     out, length = (ctypes.c_uint8 * _PAGE)(), ctypes.c_size_t()
-    _accept(*_asked("page", _lent("file", file, "B"), out, counts=[length]))
-    return bytes(out[:length.value])
+    _ask("page", _file(file), out, counts=[length])
+    return bytes(out)[:length.value]

@@ -1,21 +1,42 @@
-"""Tests of python/tawqeshim.py: refusals, buffers, numbers out of range, and the worked table from its file to its page."""
+"""Tests of python/tawqeshim.py: refusals, what it takes as cells and what it does not, its library, and the worked table from its file to
+its page. Tests of numpy and pandas are skipped where these are not installed."""
 import ctypes
+import doctest
+import inspect
 import os
 import pickle
+import pydoc
+import re
+import shutil
 import subprocess
 import sys
+import tempfile
 import unittest
 from array import array
+from collections import OrderedDict, UserString, deque
+from decimal import Decimal
+from fractions import Fraction
 from pathlib import Path
 
 ROOT = Path(__file__).resolve().parent.parent.parent
 sys.path.insert(0, str(ROOT / "python"))
 import tawqeshim as t
 
+try:
+    import numpy
+except ImportError:
+    numpy = None
+try:
+    import pandas
+except ImportError:
+    pandas = None
+
 FLOWS = [100, 400, 300, 600]
 COLUMNS = [[500, 900], [250, 560], [250, 360], [600, 1000], [1000, 2000]]
 DOMESTIC = [75_000, 150_000, 240_000, 240_000]
+ROWS = [[75_000, 150_000], [240_000, 240_000]]
 DEMAND = [625, 1280]
+MADE = ([999, 1999], 9)
 
 
 def table(**changed):
@@ -33,6 +54,7 @@ class Refusals(unittest.TestCase):
 
     def test_every_question(self):
         self.refused(1, 0, t.inverse, [])
+        self.refused(1, 0, t.coefficients, [], [], [], [], [], [])
         self.refused(1, 0, t.production, [0] * 41 * 41, [0] * 41)
         self.refused(1, 0, t.production, DOMESTIC, DEMAND, n=2**64 - 1)
         self.refused(3, 4, t.coefficients, **table(final_demand=[1_000_000_001, 900]))
@@ -41,6 +63,7 @@ class Refusals(unittest.TestCase):
         self.refused(6, 0, t.coefficients, [0], [1], [5], [2], [4], [4])
         self.refused(7, 0, t.coefficients, [960_000], [40_000], [0], [0], [40_000], [1_000_000])
         self.refused(8, 1, t.production, DOMESTIC, [0, 2_000_000_001])
+        self.refused(8, 0, t.production, DOMESTIC, [2**64 - 1, 0])
         self.refused(9, 0, t.production, DOMESTIC, DEMAND, 8)
         self.refused(10, 0, t.implied_demand, DOMESTIC, [0, 1000])
         for number, place, file in [(11, 2, [1, 2, 10]), (12, 0, [1, 41]), (13, 2, [1, 2, 3, 3, 0, 0, 0, 1]),
@@ -51,6 +74,7 @@ class Refusals(unittest.TestCase):
         for name in table():
             self.refused(2, 0, t.coefficients, **table(**{name: [0] * 3}), n=2)
         self.refused(2, 0, t.production, DOMESTIC, DEMAND + [0])
+        self.refused(2, 0, t.production, ROWS, DEMAND + [0])
         self.refused(2, 0, t.price, DOMESTIC[:3], DEMAND)
         self.refused(2, 0, t.implied_demand, array("Q", DOMESTIC), array("Q"), n=2)
         self.refused(2, 0, t.induced, FLOWS, [0], [0, 0], [0, 0], [0, 0])
@@ -62,43 +86,147 @@ class Refusals(unittest.TestCase):
         self.assertEqual((no.number, str(no)), (9, str(t.Refused(9, 0))))
 
 
-class Numbers(unittest.TestCase):
-    def test_out_of_range(self):
-        for cells in ([-1, 0], [0, 2**64], array("q", [0, -1])):
-            with self.assertRaisesRegex(OverflowError, r"demand\[\d\] is -?\d+, (below 0|above 18446744073709551615)"):
-                t.production(DOMESTIC, cells)
-        for budget in (-1, 2**32):
-            with self.assertRaises(OverflowError):
+class Given(unittest.TestCase):
+    """Helpers: what is given as a demand or as a sheet."""
+
+    def taken(self, *demands):
+        for demand in demands:
+            with self.subTest(demand=demand):
+                self.assertEqual(t.production(DOMESTIC, demand), MADE)
+
+    def not_taken(self, error, text, *demands):
+        for k, demand in enumerate(demands):
+            with self.subTest(k=k, kind=type(demand)):
+                with self.assertRaisesRegex(error, f"^{text}"):
+                    t.production(DOMESTIC, demand)
+
+    def sheet_taken(self, *sheets):
+        for sheet in sheets:
+            with self.subTest(sheet=sheet):
+                self.assertEqual(t.production(sheet, DEMAND), MADE)
+                self.assertEqual(t.inverse(sheet), t.inverse(DOMESTIC))
+
+    def sheet_not_taken(self, error, text, *sheets):
+        for k, sheet in enumerate(sheets):
+            with self.subTest(k=k, kind=type(sheet)):
+                for call in (t.inverse, lambda d: t.production(d, DEMAND), lambda d: t.implied_demand(d, DEMAND)):
+                    with self.assertRaisesRegex(error, f"^{text}"):
+                        call(sheet)
+
+
+class Sequences(Given):
+    def test_sequences_of_whole_numbers(self):
+        self.taken(DEMAND, tuple(DEMAND), range(625, 1281, 655), deque(DEMAND), [625.0, 1280], (625, 1280.0))
+        self.sheet_taken(DOMESTIC, tuple(DOMESTIC), ROWS, tuple(map(tuple, ROWS)), [array("q", row) for row in ROWS],
+                         [range(75_000, 150_001, 75_000), [240_000.0, 240_000]], deque(ROWS))
+
+    def test_what_has_no_cells_in_order(self):
+        named = {0: 625, 1: 1280}
+        for demand in (named, OrderedDict(named), {625, 1280}, frozenset(DEMAND), named.keys(), named.values(), named.items(), "ab", b"ab",
+                       bytearray(b"ab"), iter(DEMAND), (k for k in DEMAND), None, 625, 1.0, object):
+            self.not_taken(TypeError, f"demand is a {type(demand).__name__}, ", demand)
+            self.sheet_not_taken(TypeError, "domestic is a ", demand)
+
+    def test_every_argument_is_named(self):
+        for name in table():
+            for wrong in ({0: 1}, None, "12"):
+                with self.assertRaisesRegex(TypeError, f"^{name} is a "):
+                    t.coefficients(**table(**{name: wrong}))
+            with self.assertRaisesRegex(ValueError, rf"^{name}\[1\] is -7, below 0$"):
+                t.coefficients(**table(**{name: [0, -7]}))
+        names = ["inputs", "imports", "value_added", "final_demand", "production"]
+        for name in names:
+            with self.assertRaisesRegex(TypeError, f"^{name} is a set, "):
+                t.induced(**{**dict.fromkeys(names, [1]), name: {1}})
+        for call, name in ((t.price, "rises"), (t.implied_demand, "production"), (t.production, "demand")):
+            with self.assertRaisesRegex(TypeError, f"^{name} is a dict, "):
+                call(DOMESTIC, {0: 1, 1: 2})
+
+    def test_cells_that_are_no_numbers(self):
+        self.not_taken(TypeError, r"demand\[1\] is .*, not a whole number$", [0, True], [0, None], [0, "1"], [0, b"1"], [0, Decimal(1)],
+                       [0, Fraction(2, 1)], [0, 1j], [0, [1]], [0, {}], (0, False))
+        self.not_taken(TypeError, r"demand\[0\] is .*, not a whole number$", [[625], [1280]], [DEMAND], [{625}, {1280}])
+        self.sheet_not_taken(TypeError, r"domestic\[3\] is True, not a whole number$", DOMESTIC[:3] + [True])
+        self.sheet_not_taken(TypeError, r"domestic\[1\]\[0\] is None, not a whole number$", [ROWS[0], [None, 0]])
+        self.sheet_not_taken(TypeError, r"domestic\[0\]\[0\] is \[75000, 150000\], not a whole number$", [ROWS, ROWS])
+        self.sheet_not_taken(TypeError, r"domestic\[0\] is a dict, ", [{0: 1, 1: 2}, {0: 1, 1: 2}])
+        self.sheet_not_taken(TypeError, r"domestic\[1\] is a int, ", [[1, 2], 3])
+        self.sheet_not_taken(TypeError, r"domestic\[0\] is a str, ", ["12", "34"])
+        self.sheet_not_taken(TypeError, r"domestic\[0\]\[0\] is '1', not a whole number$", UserString("12"))
+
+    def test_numbers_that_no_cell_holds(self):
+        self.not_taken(ValueError, r"demand\[0\] is -1, below 0$", [-1, 0], [-1.0, 0])
+        self.not_taken(ValueError, r"demand\[1\] is 18446744073709551616, above 18446744073709551615$", [0, 2**64])
+        self.not_taken(ValueError, r"demand\[1\] is a number of \d+ bits, above 18446744073709551615$", [0, 10**400], [0, 10**5000])
+        self.not_taken(ValueError, r"demand\[1\] is a number of \d+ bits, below 0$", [0, -10**400], [0, -10**5000])
+        self.not_taken(ValueError, r"demand\[1\] is (1.5|-0.5|nan|inf|-inf), not a whole number$", [0, 1.5], [0, -0.5], [0, float("nan")],
+                       [0, float("inf")], [0, float("-inf")])
+        self.not_taken(ValueError, r"demand\[1\] is (9007199254740992.0|1e\+300): a float above 2\*\*53", [0, 2.0**53], [0, 1e300])
+        self.assertEqual(t._whole("x", 2.0**53 - 1), 2**53 - 1)
+
+    def test_other_numbers(self):
+        for budget in (-1, 2**32, 10**400, 1.5):
+            with self.assertRaisesRegex(ValueError, "^budget is "):
                 t.price(DOMESTIC, DEMAND, budget)
-        for call in (lambda: t.row(DOMESTIC, -1), lambda: t.inverse(DOMESTIC, n=2**64), lambda: t.page([256])):
-            with self.assertRaises(OverflowError):
-                call()
-        with self.assertRaisesRegex(TypeError, r"demand\[0\] is 1.5, not a whole number"):
-            t.production(DOMESTIC, [1.5, 2])
-        with self.assertRaises(t.Refused):
-            t.production(DOMESTIC, [2**64 - 1, 0])
+        for call, name in ((lambda k: t.row(DOMESTIC, k), "sector"), (lambda k: t.inverse(DOMESTIC, n=k), "n")):
+            for wrong in (-1, 2**64, 10**5000):
+                with self.assertRaisesRegex(ValueError, f"^{name} is "):
+                    call(wrong)
+            for wrong in ("1", True, [1]):
+                with self.assertRaisesRegex(TypeError, f"^{name} is .*, not a whole number$"):
+                    call(wrong)
+
+    def test_rows(self):
+        self.sheet_not_taken(ValueError, r"domestic\[1\] has 1 cells, and domestic\[0\] has 2$", [[1, 2], [3]])
+        self.sheet_not_taken(ValueError, r"domestic\[1\] has 3 cells, and domestic\[0\] has 1$", [[1], [2, 3, 4]])
+        self.sheet_not_taken(ValueError, "domestic has 1 rows of 4 cells", [DOMESTIC])
+        self.sheet_not_taken(ValueError, "domestic has 4 rows of 1 cells", [[cell] for cell in DOMESTIC])
+        self.sheet_not_taken(ValueError, "domestic has 1 rows of 0 cells", [[]])
+        self.sheet_not_taken(ValueError, r"domestic\[1\]\[1\] is -1, below 0$", [[0, 0], [0, -1]])
+        self.assertEqual(t.row(ROWS, 1), ROWS[1])
 
 
-class Buffers(unittest.TestCase):
-    def test_no_copy_and_no_change(self):
+class Buffers(Given):
+    def test_buffers_of_integers_of_every_width(self):
+        self.taken(*(array(code, DEMAND) for code in "hHiIlLqQ"), *(memoryview(array(code, DEMAND)) for code in "hHiIlLqQ"),
+                   array("d", DEMAND), array("f", DEMAND))
+        self.assertEqual(t.production([0], array("b", [7])).amounts, [7])
+        self.assertEqual(t.production([0], memoryview(b"\7")).amounts, [7])
+        kinds = [ctypes.c_int16, ctypes.c_uint16, ctypes.c_int32, ctypes.c_uint32, ctypes.c_int64, ctypes.c_uint64, ctypes.c_double]
+        self.taken(*((kind * 2)(*DEMAND) for kind in kinds), *(memoryview((kind * 2)(*DEMAND)) for kind in kinds))
+        self.sheet_taken(*(array(code, DOMESTIC) for code in "iIlLqQd"))
+
+    def test_any_order_in_memory(self):
+        wide = memoryview(array("Q", [cell for demand in DEMAND for cell in (demand, 7)]))
+        odd = memoryview(bytearray(b"\0" + array("Q", DEMAND).tobytes()))[1:].cast("Q")
+        self.taken(wide[::2], memoryview(array("q", DEMAND[::-1]))[::-1], odd, memoryview(array("Q", DEMAND)).toreadonly())
+        self.sheet_taken(*(memoryview(array(code, DOMESTIC)).cast("B").cast(code, (2, 2)) for code in "IqQ"),
+                         ((ctypes.c_uint64 * 2) * 2)(*map(tuple, ROWS)), ((ctypes.c_int32 * 2) * 2)(*map(tuple, ROWS)))
+
+    def test_each_cell_is_checked(self):
+        self.not_taken(ValueError, r"demand\[1\] is -2, below 0$", *(array(code, [0, -2]) for code in "bhilqd"),
+                       (ctypes.c_int32 * 2)(0, -2), memoryview((ctypes.c_int64 * 2)(0, -2)))
+        self.not_taken(ValueError, r"demand\[1\] is 1.5, not a whole number$", array("d", [0, 1.5]), (ctypes.c_float * 2)(0, 1.5))
+        self.sheet_not_taken(ValueError, r"domestic\[1\]\[0\] is -2, below 0$",
+                             memoryview(array("q", [0, 0, -2, 0])).cast("B").cast("q", (2, 2)))
+
+    def test_buffers_that_are_no_cells(self):
+        self.not_taken(TypeError, "demand is a buffer of format ", (ctypes.c_bool * 2)(True, True), (ctypes.c_char * 2)(b"a", b"b"),
+                       memoryview(b"\1\1").cast("?"), memoryview(b"ab").cast("c"), ctypes.c_uint64.__ctype_be__.__mul__(2)(*DEMAND))
+        self.not_taken(ValueError, "demand has 2 dimensions, not 1$", memoryview(array("Q", DEMAND)).cast("B").cast("Q", (2, 1)))
+        self.not_taken(ValueError, "demand has 0 dimensions, not 1$", ctypes.c_uint64(5))
+        self.sheet_not_taken(ValueError, "domestic has 4 rows of 1 cells", memoryview(array("Q", DOMESTIC)).cast("B").cast("Q", (4, 1)))
+        self.sheet_not_taken(ValueError, "domestic has 3 dimensions, not 1 or 2$",
+                             memoryview(array("Q", DOMESTIC)).cast("B").cast("Q", (2, 2, 1)))
+
+    def test_no_change_and_nothing_held(self):
         domestic, demand = array("Q", DOMESTIC), array("Q", DEMAND)
-        self.assertEqual(ctypes.addressof(t._lent("demand", demand)), demand.buffer_info()[0])
-        self.assertEqual(t.production(domestic, memoryview(demand)), ([999, 1999], 9))
+        self.assertEqual(t.production(domestic, memoryview(demand)), MADE)
         self.assertEqual((domestic.tolist(), demand.tolist()), (DOMESTIC, DEMAND))
         try:
             t.production(domestic, demand, 8)
         except t.Refused:
-            demand.append(0)  # a buffer still lent could not grow
-
-    def test_other_buffers_are_copied(self):
-        wide = array("Q", [cell for demand in DEMAND for cell in (demand, 7)])
-        odd = memoryview(bytearray(b"\0" + array("Q", DEMAND).tobytes()))[1:].cast("Q")
-        square = memoryview(array("Q", DOMESTIC)).cast("B").cast("Q", (2, 2))
-        for demand in (tuple(DEMAND), array("I", DEMAND), memoryview(wide)[::2], odd, memoryview(array("Q", DEMAND)).toreadonly(),
-                       (ctypes.c_uint64 * 2)(*DEMAND)):
-            self.assertEqual(t.production(DOMESTIC, demand).amounts, [999, 1999])
-        self.assertEqual(ctypes.addressof(t._lent("demand", odd)) % 8, 0)
-        self.assertEqual(t.inverse(square), t.inverse(DOMESTIC))
+            demand.append(0)  # a buffer that is still held could not grow
 
     def test_a_row_is_a_stretch_of_the_buffer(self):
         sheet = array("Q", DOMESTIC)
@@ -107,7 +235,105 @@ class Buffers(unittest.TestCase):
         self.assertEqual((type(row), row.tolist()), (memoryview, [5, 240_000]))
         self.assertEqual(t.row(memoryview(sheet).cast("B").cast("Q", (2, 2)), 0).tolist(), [75_000, 150_000])
         self.assertEqual(t.row((ctypes.c_uint64 * 4)(*DOMESTIC), 1), [240_000, 240_000])
+        self.assertEqual(t.row(array("q", DOMESTIC), 1), [240_000, 240_000])
         self.assertEqual(len(t.row(sheet, 2)), 0)
+        self.assertEqual(t.row(array("Q"), 0), [])
+
+
+@unittest.skipUnless(numpy, "numpy is not installed")
+class Numpy(Given):
+    def test_arrays_of_every_type(self):
+        codes = ["i2", "u2", "i4", "u4", "i8", "u8", ">i8", ">u4", "<i4", "f4", "f8", ">f8", "g", "O"]
+        self.taken(*(numpy.array(DEMAND, dtype=code) for code in codes), numpy.array([625, 1280], dtype="f2"), list(numpy.array(DEMAND)),
+                   list(numpy.array(DEMAND, dtype="f8")), numpy.array([625, 1280.0], dtype=object))
+        self.sheet_taken(*(numpy.array(shape, dtype=code) for code in codes[2:] for shape in (DOMESTIC, ROWS)))
+
+    def test_any_order_in_memory(self):
+        rows = numpy.array(ROWS)
+        wide = numpy.zeros((4, 6), dtype=numpy.int64)
+        wide[::2, 1::3] = rows
+        fixed = numpy.array(ROWS, dtype=numpy.uint64)
+        fixed.flags.writeable = False
+        self.sheet_taken(numpy.asfortranarray(rows), rows.T.copy().T, wide[::2, 1::3], rows[::-1][::-1], fixed, list(rows),
+                         list(map(list, rows)))
+        self.taken(numpy.array(DEMAND[::-1])[::-1], numpy.array([625, 0, 1280])[::2])
+
+    def test_each_cell_is_checked(self):
+        self.not_taken(ValueError, r"demand\[1\] is -2(.0)?, below 0$", *(numpy.array([0, -2], dtype=code) for code in "bhilqefdg"))
+        nan, inf = float("nan"), float("inf")
+        self.not_taken(ValueError, r"demand\[1\] is (nan|-?inf|0.5|-1.5), not a whole number$",
+                       *(numpy.array([0, cell], dtype=code) for code in "efd" for cell in (nan, inf, -inf, 0.5, -1.5)))
+        self.not_taken(ValueError, r"demand\[1\] is .*, not a whole number$", numpy.array([0, 1 + 2 * numpy.finfo("g").eps], dtype="g"),
+                       *(numpy.array([0, cell], dtype="g") for cell in (nan, inf, 0.5)))
+        self.not_taken(ValueError, r"demand\[1\] is 9007199254740992.0: a float above 2\*\*53", numpy.array([0, 2.0**53]))
+        below = numpy.array([[0, 0], [-3, 0]])
+        self.sheet_not_taken(ValueError, r"domestic\[1\]\[0\] is -3, below 0$", below, numpy.asfortranarray(below), below.T.copy().T)
+        with numpy.errstate(all="raise"):
+            self.not_taken(ValueError, r"demand\[0\] is nan", numpy.array([nan, 0]), numpy.array([nan, 0], dtype="f4"))
+        self.taken(numpy.array([625, 1280.0]) + -0.0)
+
+    def test_masks(self):
+        masked = numpy.ma.array(DEMAND, mask=[False, True])
+        self.not_taken(ValueError, r"demand\[1\] is masked$", masked, numpy.ma.array(DEMAND, mask=[False, True], dtype=object))
+        self.not_taken(TypeError, r"demand\[1\] is masked, not a whole number$", list(masked))
+        self.not_taken(TypeError, r"demand\[0\] is .*, not a whole number$", [numpy.ma.array(625, mask=True), 1280])
+        self.sheet_not_taken(ValueError, r"domestic\[1\]\[0\] is masked$", numpy.ma.array(ROWS, mask=[[0, 0], [1, 0]]))
+        self.sheet_not_taken(ValueError, r"domestic\[1\]\[0\] is masked$", list(numpy.ma.array(ROWS, mask=[[0, 0], [1, 0]])))
+        self.taken(numpy.ma.array(DEMAND), numpy.ma.array(DEMAND, mask=[False, False]))
+
+    def test_arrays_that_are_no_cells(self):
+        self.not_taken(TypeError, "demand is an array of ", numpy.array([True, False]), numpy.array(["1", "2"]), numpy.array([b"1", b"2"]),
+                       numpy.array([1j, 2]), numpy.array([1, 2], dtype="m8[ns]"), numpy.array([1, 2], dtype="M8[ns]"),
+                       numpy.array([(1, 2), (3, 4)], dtype="i8,i8"))
+        self.not_taken(TypeError, r"demand\[1\] is ", numpy.array([1, None]), numpy.array([1, "2"], dtype=object), [1, numpy.True_],
+                       numpy.array([1, True], dtype=object))
+        self.not_taken(ValueError, "demand has 2 dimensions, not 1$", numpy.array([DEMAND]), numpy.array([DEMAND]).T)
+        self.not_taken(ValueError, "demand has 0 dimensions, not 1$", numpy.array(5), numpy.int64(5), numpy.float64(5))
+        self.sheet_not_taken(ValueError, "domestic has (1|4) rows of (4|1) cells", numpy.array([DOMESTIC]), numpy.array([DOMESTIC]).T)
+        self.sheet_not_taken(ValueError, "domestic has 3 dimensions, not 1 or 2$", numpy.zeros((2, 2, 1), dtype=int))
+
+    def test_what_numpy_makes_an_array_of(self):
+        class Own:
+            def __array__(self, dtype=None, copy=None):
+                return numpy.array(DEMAND, dtype=dtype)
+
+        class Interface:
+            __array_interface__ = numpy.array(DEMAND).__array_interface__
+
+        self.taken(Own(), Interface())
+
+    def test_no_change_and_a_row(self):
+        sheet = numpy.array(ROWS, dtype=numpy.uint64)
+        t.production(sheet, numpy.array(DEMAND))
+        self.assertEqual(sheet.tolist(), ROWS)
+        row = t.row(sheet, 1)
+        sheet[1, 0] = 5
+        self.assertEqual((type(row), row.tolist()), (memoryview, [5, 240_000]))
+        self.assertEqual(t.row(numpy.asfortranarray(sheet), 0), ROWS[0])
+        self.assertEqual(t.row(numpy.array(ROWS), 1), ROWS[1])
+
+
+@unittest.skipUnless(pandas, "pandas is not installed")
+class Pandas(Given):
+    def test_series_and_frames(self):
+        self.taken(pandas.Series(DEMAND), pandas.Series(DEMAND, index=["b", "a"]), pandas.Series(DEMAND, index=[1, 0]),
+                   pandas.Series(DEMAND, dtype="float64"), pandas.Series(DEMAND, dtype="Int64"), pandas.Series(DEMAND, dtype="UInt32"),
+                   pandas.Series(DEMAND, dtype=object), pandas.Index(DEMAND), pandas.DataFrame({"a": DEMAND, "b": [1, 2]})["a"])
+        frame = pandas.DataFrame(ROWS, columns=[3, 7], index=["x", "y"])
+        self.sheet_taken(frame, frame.astype("float64"), frame.astype({3: "float64"}), frame.astype("Int64"), frame.T.T, frame.values)
+
+    def test_what_is_refused(self):
+        self.not_taken(ValueError, r"demand\[1\] is nan, not a whole number$", pandas.Series([625, None]))
+        self.not_taken(TypeError, r"demand\[1\] is <NA>, not a whole number$", pandas.Series([625, None], dtype="Int64"))
+        self.not_taken(ValueError, r"demand\[0\] is -1", pandas.Series([-1, 2]), pandas.Series([-1, 2], dtype="Int64"))
+        self.not_taken(ValueError, "demand has 2 dimensions, not 1$", pandas.DataFrame({"a": DEMAND}), pandas.DataFrame([DEMAND]))
+        self.not_taken(TypeError, "demand is an array of ", pandas.Series([True, False]), pandas.to_timedelta(pandas.Series(DEMAND)),
+                       pandas.to_datetime(pandas.Series(DEMAND)))
+        self.not_taken(TypeError, r"demand\[0\] is ", pandas.Series(["625", "1280"]), pandas.Series([True, False], dtype="boolean"))
+        self.sheet_not_taken(ValueError, r"domestic\[1\]\[0\] is nan", pandas.DataFrame([[0, 0], [None, 0]]))
+        self.sheet_not_taken(TypeError, r"domestic\[0\]\[0\] is 'agriculture', not a whole number$",
+                             pandas.DataFrame([["agriculture", 1], ["industry", 2]]))
+        self.sheet_not_taken(ValueError, "domestic has 2 rows of 3 cells", pandas.DataFrame([[0, 0, 0], [0, 0, 0]]))
 
 
 class Files(unittest.TestCase):
@@ -117,14 +343,97 @@ class Files(unittest.TestCase):
         read = t.read_table(file)
         self.assertEqual(read, (2, 14, FLOWS, *COLUMNS, [0, 0]))
         self.assertEqual(t.coefficients(*read[2:8]).demand, DEMAND)
-        for given in (file, bytearray(file), memoryview(file), list(file)):
+        for given in (file, bytearray(file), memoryview(file), array("B", file), memoryview(file[::-1])[::-1]):
             self.assertEqual(t.page(given), (ROOT / "crates/roadsheet/stdout").read_bytes())
 
-    def test_library_by_its_path(self):
-        for path, right in ((ROOT / "target/libtawqeshim.so", True), (ROOT / "target/none.so", False)):
-            run = subprocess.run([sys.executable, "-Bc", "import tawqeshim"], cwd=ROOT / "python", capture_output=True,
-                                 env={**os.environ, "TAWQESHIM_LIBRARY": str(path)})
-            self.assertEqual(run.returncode == 0, right)
+    def test_what_is_no_file(self):
+        for given in ("examples/worked.table", Path("worked.table"), None, [1, 2, 8], {1: 2}, array("I", [1, 2]), array("Q", [1])):
+            for call in (t.page, t.read_table):
+                with self.assertRaisesRegex(TypeError, "^file is a "):
+                    call(given)
+
+
+class Library(unittest.TestCase):
+    def imported(self, code="import tawqeshim", library=ROOT / "target/libtawqeshim.so"):
+        return subprocess.run([sys.executable, "-Bc", code], cwd=ROOT / "python", capture_output=True, text=True,
+                              env={**os.environ, "TAWQESHIM_LIBRARY": str(library)})
+
+    def not_imported(self, text, library):
+        run = self.imported(library=library)
+        self.assertEqual(run.returncode, 1)
+        self.assertRegex(run.stderr.splitlines()[-1], f"^ImportError: .*{text}.*run scripts/shared-library .*TAWQESHIM_LIBRARY")
+
+    def test_by_its_path(self):
+        self.assertEqual(self.imported().returncode, 0)
+        self.assertEqual(self.imported(library="../target/libtawqeshim.so").returncode, 0)
+
+    def test_no_library(self):
+        self.not_imported("there is no library .*/none.so", ROOT / "target/none.so")
+        self.not_imported("there is no library ", ROOT)
+        self.not_imported("cannot be loaded as a library ", Path(__file__))
+
+    @unittest.skipUnless(shutil.which(os.environ.get("CC", "gcc")), "there is no C compiler")
+    def test_another_library(self):
+        with tempfile.TemporaryDirectory() as place:
+            for text, code in [("is another library, or one before version 1.0.0", "int other;"),
+                               (f"has version 0.9.1, and this module has {t.__version__}", 'const char tawqeshim_version[] = "0.9.1";')]:
+                built = Path(place) / "lib.so"
+                compiler = os.environ.get("CC", "gcc")
+                subprocess.run([compiler, "-shared", "-fPIC", "-x", "c", "-o", built, "-"], input=code.encode(), check=True)
+                self.not_imported(text, built)
+
+    def test_no_import_of_numpy(self):
+        run = self.imported("import sys, tawqeshim as t; t.production([0], [1]); print({'numpy', 'pandas'} & set(sys.modules))")
+        self.assertEqual((run.stdout, run.returncode), ("set()\n", 0))
+
+
+class Help(unittest.TestCase):
+    def test_every_name_is_documented_and_typed(self):
+        text = pydoc.render_doc(t, renderer=pydoc.plaintext)
+        for name in t.__all__:
+            self.assertIn(name, text)
+            thing = getattr(t, name)
+            if inspect.isfunction(thing):
+                signature = inspect.signature(thing)
+                kinds = [signature.return_annotation, *(p.annotation for p in signature.parameters.values())]
+                self.assertNotIn(inspect.Signature.empty, kinds)
+                self.assertIn(">>> ", thing.__doc__)
+            elif inspect.isclass(thing):
+                self.assertNotIn("Alias for field", thing.__doc__)
+                self.assertGreater(len(thing.__doc__), 30)
+
+    def test_every_function_is_typed(self):
+        for name, thing in inspect.getmembers(t, lambda thing: inspect.isfunction(thing) and thing.__module__ == t.__name__):
+            missing = set(inspect.signature(thing).parameters) - set(thing.__annotations__)
+            self.assertFalse(missing or "return" not in thing.__annotations__, name)
+
+
+class Documents(unittest.TestCase):
+    """What the documents say that can be held against the repository."""
+
+    def test_examples(self):
+        for name in ("README.md", "docs/CALLS.md"):
+            self.assertEqual(doctest.testfile(str(ROOT / name), module_relative=False).failed, 0)
+
+    def test_the_worked_file_and_its_page(self):
+        model = (ROOT / "docs/MODEL.md").read_text()
+        dump = re.findall(r"^    [ \d]\d      ((?:[0-9a-f]{2} )+) *", model, re.MULTILINE)
+        self.assertEqual(bytes.fromhex("".join(dump)), (ROOT / "examples/worked.table").read_bytes())
+        page = "".join(f"    {line}\n" for line in (ROOT / "crates/roadsheet/stdout").read_text().splitlines())
+        for name in ("README.md", "docs/MODEL.md"):
+            self.assertIn(page, (ROOT / name).read_text())
+
+    def test_the_definitions_that_the_model_names(self):
+        seen = 0
+        for paragraph in (ROOT / "docs/MODEL.md").read_text().split("\n\n"):
+            source = None
+            for word in re.findall("`([^` ]+)`", paragraph if paragraph.startswith("Defined: ") else ""):
+                if word.endswith(".antt"):
+                    source = (ROOT / (word if "/" in word else f"crates/model/specs/{word}")).read_text()
+                else:
+                    self.assertRegex(source, rf"(?m)^ *(\w+ )*{word}\b", f"{word} of MODEL.md")
+                    seen += 1
+        self.assertGreater(seen, 100)
 
 
 if __name__ == "__main__":
