@@ -35,7 +35,7 @@ fn check_shares(n: usize, a: &[u64], m: &[u64], v: &[u64], final_demand: &[u64])
 }
 
 // Induced value added: each sector's share of its production.
-fn fill_value_added(n: usize, v: &[u64], y: &[u64], out: &mut [u64])
+fn fill_induced_value_added(n: usize, v: &[u64], y: &[u64], out: &mut [u64])
     requires { ⌜ (length (now v) ≡ n) × (length (now y) ≡ n) × (length (now out) ≡ n) ⌝ }
     requires { ⌜ ((i : ℕ) → i < n → cell (now v) i ≤ one) ⌝ }
     requires { ⌜ sum n (cell (now y)) ≤ productionLimit ⌝ }
@@ -132,7 +132,7 @@ pub fn induced(
             Answer::Refused { number, place }
         }
         Answer::Accepted => {
-            fill_value_added(n, v, production, value);
+            fill_induced_value_added(n, v, production, value);
             fill_induced_imports(n, a, m, final_demand, production, imports);
             Answer::Accepted
         }

@@ -8,7 +8,7 @@ use native.Mathlib.Numerals.{add-one}
 use native.Mathlib.Omega.{arith}
 use lib.ListN.{length, length-append}
 use Rattle.model.specs.Page.{linesTo}
-use Rattle.page_text.proofs.Stores.{Wrote, Begun, begin, go-on, done, room}
+use Rattle.theory.proofs.Stores.{Wrote, Begun, begin, go-on, done, room}
 
 -- fewer lines have no more bytes
 lines-part : (w : ℕ → List ℕ) (i n : ℕ) → i ≤ n → length (linesTo i w) ≤ length (linesTo n w)

@@ -1,3 +1,2 @@
--- Runs of stores, and worked decimals.
-pub mod Stores
+-- Worked decimals.
 pub mod Examples

@@ -1,7 +1,8 @@
--- Laws of sums, lists and searches, of matrices and shares, of lists of checks, and of decimals.
+-- Laws of sums, lists and searches, of matrices and shares, of lists of checks, of decimals, and of texts written piece by piece.
 pub mod Sums
 pub mod Lists
 pub mod Matrices
 pub mod Shares
 pub mod Verdicts
 pub mod Decimals
+pub mod Stores

@@ -2,14 +2,14 @@
 use mathlib.Core.Bool.{Bool, true, false, _&&_, false≢true}
 use mathlib.Core.List.{List, [], _∷_}
 use mathlib.Core.Path.{_≡_, refl, sym, ap, _∙_, subst⁻¹}
-use Prim.Native.Nat.{ℕ, zero, suc, _+_, _<_, _≤_, suc-le-suc}
+use Prim.Native.Nat.{ℕ, zero, suc, _+_, _<_, _≤_, suc-le-suc, zero-le}
 use native.Mathlib.Nat.{not-suc-le-zero, le-of-suc-le-suc, le-step, lt-suc-self, zero-lt-suc, ne-of-lt, lt-of-lt-of-le, le-refl}
 use native.Mathlib.Numerals.{add-one}
 use native.Mathlib.Omega.{arith}
 use borrow.Author.Count.{below-more}
 use borrow.Author.Tests.{eq-eqb, eqb-true}
 use lib.Dec.{eqb}
-use lib.ListN.{length, set, replicate, take, length-replicate, getD-replicate}
+use lib.ListN.{length, set, replicate, take, length-set, length-replicate, getD-replicate}
 use lib.Seq.{ext-getD, getD-set-same, getD-set-other, length-take-le, getD-take}
 use Rattle.model.specs.Numbers.{first, all, tabulate, cell, same}
 use Rattle.model.specs.Promises.{Equal}
@@ -67,6 +67,24 @@ pub zeroed : (n i : ℕ) (l : List ℕ) → length l ≡ n → n ≤ i → Agree
 zeroed n i l e h p =
     agreed n n l (replicate n 0) e (length-replicate n 0) (le-refl n)
     (λ k lt. p k (lt-of-lt-of-le lt h) ∙ sym (getD-replicate n k 0 0 lt))
+
+-- ---- a loop that fills a list of n cells from the front with f, from i = 0: nothing yet, one cell more, and the end
+pub record Front (n : ℕ) (f : ℕ → ℕ) (l : List ℕ) (i : ℕ) : Type 0 where
+  pub within : i ≤ n
+  pub whole : length l ≡ n
+  pub agree : Agree l i f
+
+module _ {n : ℕ} {f : ℕ → ℕ} {l : List ℕ} where
+  pub front-none : length l ≡ n → Front n f l 0
+  front-none e = record { within = zero-le; whole = e; agree = agree-none l f }
+
+  pub front-set : {i v : ℕ} → Front n f l i → i < n → v ≡ f i → Front n f (set l i v) (i + 1)
+  front-set {i} {v} p h e =
+      let w = p .whole in
+      record { within = omega arith; whole = simp length-set w; agree = agree-set l i f v (omega arith) e (p .agree) }
+
+  pub front-done : {i : ℕ} → Front n f l i → n ≤ i → l ≡ tabulate n f
+  front-done {i} p h = tabulated n i f l (p .whole) h (p .agree)
 
 -- a part of an array of zeros
 pub zeros-part : (n m : ℕ) → n ≤ m → take {A = ℕ} n (replicate m 0) ≡ replicate n 0

@@ -12,7 +12,8 @@ use Rattle.model.specs.Numbers.{sum, cell}
 use Rattle.model.specs.Table.{sectorLimit}
 use Rattle.model.specs.File.{Entry, recordLengths, columnWords, kindAt, isFlow, nextAt, wholeAt, insideAt, entryAt, namedBefore, Reading, walk, reading, fileLimit, wordLimit}
 use Rattle.theory.proofs.Sums.{sum-mono}
-use Rattle.theory.proofs.Lists.{first-before, and-true}
+use Rattle.theory.proofs.Lists.{and-true}
+use Rattle.theory_files.proofs.RecordKinds.{wordBytes, Taken, taken}
 
 -- a sum with one larger cell
 sum-lift : (n : ℕ) {f g : ℕ → ℕ} (i d : ℕ) → i < n → ((k : ℕ) → k < n → f k ≤ g k) → f i + d ≤ g i → sum n f + d ≤ sum n g
@@ -32,9 +33,9 @@ sum-lift (suc n) {f} {g} i d h le at-i = go (ltb i n) refl (λ l. sum-lift n {f 
         omega arith
 
 -- ---- the bytes that the named cells take
-abbrev pub bit : Bool → ℕ
-bit true = 1
-bit false = 0
+abbrev pub indicator : Bool → ℕ
+indicator true = 1
+indicator false = 0
 
 abbrev pub place : ℕ → ℕ → Entry
 place l p = record { word = l; position = p; amount = 0 }
@@ -42,38 +43,35 @@ place l p = record { word = l; position = p; amount = 0 }
 abbrev is : Entry → ℕ → ℕ → Bool
 is e l p = eqb (e .word) l && eqb (e .position) p
 
-abbrev pub wordBytes : ℕ → ℕ
-wordBytes l = cond (ltb l sectorLimit) 7 6
-
 abbrev pub count : List Entry → ℕ → ℕ
-count es l = sum sectorLimit (λ p. bit (namedBefore es (place l p)))
+count es l = sum sectorLimit (λ p. indicator (namedBefore es (place l p)))
 
 pub weight : List Entry → ℕ
 weight es = sum wordLimit (λ l. wordBytes l * count es l)
 
-bit-most : (b : Bool) → bit b ≤ 1
-bit-most true = le-refl 1
-bit-most false = omega arith
+indicator-most : (b : Bool) → indicator b ≤ 1
+indicator-most true = le-refl 1
+indicator-most false = omega arith
 
 count-most : (es : List Entry) (l : ℕ) → count es l ≤ sum sectorLimit (λ _. 1)
-count-most es l = sum-mono sectorLimit (λ p _. bit-most (namedBefore es (place l p)))
+count-most es l = sum-mono sectorLimit (λ p _. indicator-most (namedBefore es (place l p)))
 
 pub weight-most : (es : List Entry) → weight es ≤ sum wordLimit (λ l. wordBytes l * sectorLimit)
 unfolding weight
 weight-most es = sum-mono wordLimit (λ l _. mul-le-mul-left (wordBytes l) (count-most es l))
 
-bit-or : (a b : Bool) → bit b ≤ bit (a || b)
-bit-or true b = bit-most b
-bit-or false b = le-refl (bit b)
+indicator-or : (a b : Bool) → indicator b ≤ indicator (a || b)
+indicator-or true b = indicator-most b
+indicator-or false b = le-refl (indicator b)
 
 count-mono : (e : Entry) (es : List Entry) (l : ℕ) → count es l ≤ count (e ∷ es) l
-count-mono e es l = sum-mono sectorLimit (λ p _. bit-or (is e l p) (namedBefore es (place l p)))
+count-mono e es l = sum-mono sectorLimit (λ p _. indicator-or (is e l p) (namedBefore es (place l p)))
 
 named-place : (es : List Entry) (e : Entry) → namedBefore es (place (e .word) (e .position)) ≡ namedBefore es e
 named-place [] e = refl
 named-place (f ∷ es) e = ap (λ (b : Bool). eqb (f .word) (e .word) && eqb (f .position) (e .position) || b) (named-place es e)
 
-or-true : (a b : Bool) → a ≡ true → bit (a || b) ≡ 1
+or-true : (a b : Bool) → a ≡ true → indicator (a || b) ≡ 1
 or-true true b e = refl
 or-true false b e = absurd (false≢true e)
 
@@ -83,9 +81,9 @@ count-more e es fresh h =
     let itself : is e (e .word) (e .position) ≡ true =
     rw (eq-eqb (e .word) (e .word) refl, eq-eqb (e .position) (e .position) refl) refl
     in
-    let before : bit (namedBefore es (place (e .word) (e .position))) ≡ 0 = ap bit (named-place es e ∙ fresh) in
+    let before : indicator (namedBefore es (place (e .word) (e .position))) ≡ 0 = ap indicator (named-place es e ∙ fresh) in
     let after = or-true (is e (e .word) (e .position)) (namedBefore es (place (e .word) (e .position))) itself in
-    sum-lift sectorLimit (e .position) 1 h (λ p _. bit-or (is e (e .word) p) (namedBefore es (place (e .word) p))) (omega arith)
+    sum-lift sectorLimit (e .position) 1 h (λ p _. indicator-or (is e (e .word) p) (namedBefore es (place (e .word) p))) (omega arith)
 
 weight-more : (e : Entry) (es : List Entry) → namedBefore es e ≡ false → e .word < wordLimit → e .position < sectorLimit → weight es + wordBytes (e .word) ≤ weight (e ∷ es)
 unfolding weight
@@ -109,94 +107,15 @@ barred : (b : Bool) (x : Reading) (q p : ℕ) → accepted (cond b (Reading.refu
 barred true x q p e = absurd (false≢true e)
 barred false x q p e = (refl, e)
 
--- a kind with a body, other than 1, 2 and 8, is a column's
-abbrev columnKind : ℕ → Bool
-columnKind k = eqb (cell recordLengths k) 6 && (leb sectorLimit (cell columnWords k) && ltb (cell columnWords k) wordLimit)
-
-abbrev other : ℕ → Bool
-other k = eqb (cell recordLengths k) 0 || (eqb k 1 || (eqb k 2 || eqb k 8))
-
-or-false : (a b : Bool) → a ≡ false → a || b ≡ true → b ≡ true
-or-false a b e t = sym (ap (λ (x : Bool). x || b) e) ∙ t
-
-kinds : (k : ℕ) → k < 10 → other k || columnKind k ≡ true
-kinds k h = first-before 10 (λ i. other i || columnKind i) k h
-
-pub no-kind : (k : ℕ) → 10 ≤ k → cell recordLengths k ≡ 0
-no-kind k h = List·getD-eq-default recordLengths 0 h
-
-column-kind : (k : ℕ) → leb 1 (cell recordLengths k) ≡ true → eqb k 1 ≡ false → eqb k 2 ≡ false → eqb k 8 ≡ false → columnKind k ≡ true
-column-kind k body no-1 no-2 no-8 = go (ltb k 10) refl
-  where
-    some : 1 ≤ cell recordLengths k
-    some = leb-true 1 (cell recordLengths k) body
-
-    none : eqb (cell recordLengths k) 0 ≡ false
-    none = ne-eqb (cell recordLengths k) 0 (λ e. omega (arith, some))
-
-    others : other k ≡ false
-    others = rw (none, no-1, no-2, no-8) refl
-
-    go : (b : Bool) → ltb k 10 ≡ b → columnKind k ≡ true
-    go true e = or-false (other k) (columnKind k) others (kinds k (ltb-true k 10 e))
-    go false e =
-        let zero-body = no-kind k (ltb-false k 10 e) in
-        let more = some in
-        absurd (omega arith)
-
-pub record Taken (s : List ℕ) (at : ℕ) : Type 0 where
-  pub bytes : wordBytes (entryAt s at .word) ≡ cell recordLengths (kindAt s at)
-  pub word-low : entryAt s at .word < wordLimit
-  pub position-low : entryAt s at .position < sectorLimit
-
--- a sector byte from 1 to n, less 1, is a sector below 40
-sector-low : (n b : ℕ) → n ≤ sectorLimit → leb 1 b && leb b n ≡ true → b - 1 < sectorLimit
-sector-low n b most e =
-    let parts = and-true (leb 1 b) (leb b n) e in
-    let low = leb-true 1 b (parts .0) in
-    let high = leb-true b n (parts .1) in
-    omega arith
-
-below-46 : (i : ℕ) → i < sectorLimit → i < wordLimit
-below-46 i h = omega arith
-
-pub taken : (s : List ℕ) (at n : ℕ) → n ≤ sectorLimit → wholeAt s at ≡ true → eqb (kindAt s at) 1 ≡ false → eqb (kindAt s at) 8 ≡ false → insideAt s at n ≡ true → Taken s at
-unfolding wholeAt insideAt entryAt
-taken s at n most whole no-1 no-8 inside = go (isFlow s at) refl
-  where
-    parts : (leb 1 (cell s (at + 1)) && leb (cell s (at + 1)) n ≡ true) × (cond (isFlow s at) (leb 1 (cell s (at + 2)) && leb (cell s (at + 2)) n) true ≡ true)
-    parts = and-true _ _ inside
-
-    first-low : cell s (at + 1) - 1 < sectorLimit
-    first-low = sector-low n (cell s (at + 1)) most (parts .0)
-
-    go : (b : Bool) → isFlow s at ≡ b → Taken s at
-    go true e =
-        let second-low = sector-low n (cell s (at + 2)) most (rw e at (parts .1)) in
-        record {
-          bytes = rw (e, lt-ltb (cell s (at + 1) - 1) sectorLimit first-low, eqb-true (kindAt s at) 2 e) refl;
-          word-low = rw e (below-46 _ first-low);
-          position-low = rw e second-low;
-        }
-    go false e =
-        let body = and-true (leb 1 (cell recordLengths (kindAt s at))) _ whole .0 in
-        let column = and-true _ _ (column-kind (kindAt s at) body no-1 e no-8) in
-        let words = and-true _ _ (column .1) in
-        let low = leb-true sectorLimit (cell columnWords (kindAt s at)) (words .0) in
-        record {
-          bytes = rw (e, le-ltb (cell columnWords (kindAt s at)) sectorLimit low) (sym (eqb-true _ _ (column .0)));
-          word-low = rw e (ltb-true _ _ (words .1));
-          position-low = rw e first-low;
-        }
-
 -- ---- the walk: its offset is at most the bytes of the cells named so far, and 2
 either : {R : Type 0} (b : Bool) (x y : Reading) → accepted (cond b x y) ≡ true → (accepted x ≡ true → R) → (b ≡ false → accepted y ≡ true → R) → R
 either true x y e p q = p e
 either false x y e p q = q refl e
 
-pub offset-on : (s : List ℕ) (es : List Entry) (at : ℕ) → Taken s at → namedBefore es (entryAt s at) ≡ false → at ≤ 2 + weight es → nextAt s at ≤ 2 + weight (entryAt s at ∷ es)
-offset-on s es at t fresh h =
-    let more = weight-more (entryAt s at) es fresh (t .word-low) (t .position-low) in
+pub offset-on : (s : List ℕ) (es : List Entry) (at : ℕ) {n : ℕ} → n ≤ sectorLimit → Taken n s at → namedBefore es (entryAt s at) ≡ false → at ≤ 2 + weight es → nextAt s at ≤ 2 + weight (entryAt s at ∷ es)
+offset-on s es at most t fresh h =
+    let place = t .within .place in
+    let more = weight-more (entryAt s at) es fresh (t .within .known) (omega arith) in
     let same = t .bytes in
     omega arith
 
@@ -215,8 +134,8 @@ walk-length (suc fuel) s n es at most h e =
     (λ going on.
     let inside = through (insideAt s at n) _ 13 at on in
     let fresh = barred (namedBefore es (entryAt s at)) _ 14 at (inside .1) in
-    let t = taken s at n most (whole .0) (later .0) going (inside .0) in
-    walk-length fuel s n (entryAt s at ∷ es) (nextAt s at) most (offset-on s es at t (fresh .0) h) (fresh .1))
+    let t = taken s at (whole .0) (later .0) going n most (inside .0) in
+    walk-length fuel s n (entryAt s at ∷ es) (nextAt s at) most (offset-on s es at most t (fresh .0) h) (fresh .1))
 
 -- "No accepted file exceeds 12,643 bytes"
 pub accepted-length : (s : List ℕ) (n : ℕ) (es : List Entry) → reading s ≡ Reading.table n es → length s ≤ fileLimit

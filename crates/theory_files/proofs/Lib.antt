@@ -1,6 +1,7 @@
 -- Table files: what was written is read back, the longest file, inputs that agree in their first bytes, and what a reading may be.
 pub mod Encoding
 pub mod Files
+pub mod RecordKinds
 pub mod Lengths
 pub mod Prefixes
 pub mod Readings

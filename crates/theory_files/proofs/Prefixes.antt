@@ -15,7 +15,8 @@ use Rattle.model.specs.File.{Entry, recordLengths, amountFrom, kindAt, nextAt, 
 use Rattle.model.specs.Page.{readingPage, page}
 use Rattle.theory_files.specs.Files.{inputLimit}
 use Rattle.theory.proofs.Lists.{first-before, and-true}
-use Rattle.theory_files.proofs.Lengths.{no-kind, weight, weight-most, taken, offset-on}
+use Rattle.theory_files.proofs.RecordKinds.{no-kind, body, taken}
+use Rattle.theory_files.proofs.Lengths.{weight, weight-most, offset-on}
 
 cell-take : (k : ℕ) (s : List ℕ) (i : ℕ) → i < k → cell (take k s) i ≡ cell s i
 cell-take zero s i h = absurd (not-suc-le-zero h)
@@ -63,10 +64,6 @@ module _ (s t : List ℕ) (same : (i : ℕ) → i < inputLimit → cell t i ≡ 
     unfolding wholeAt
     whole-same = rw (same at (omega arith), room t long′, room s long) refl
 
-  body-some : (at : ℕ) → wholeAt s at ≡ true → 1 ≤ cell recordLengths (kindAt s at)
-  unfolding wholeAt
-  body-some at e = leb-true _ _ (and-true (leb 1 (cell recordLengths (kindAt s at))) _ e .0)
-
   walk-same : (fuel fuel′ n : ℕ) (es : List Entry) (at : ℕ) → n ≤ sectorLimit → at ≤ 2 + weight es → fileLimit ≤ fuel + at → fileLimit ≤ fuel′ + at
       → walk fuel t n es at ≡ walk fuel′ s n es at
   unfolding walk
@@ -90,9 +87,9 @@ module _ (s t : List ℕ) (same : (i : ℕ) → i < inputLimit → cell t i ≡ 
       cond-else (eqb (kindAt s at) 8) _ _ _ (λ no-8.
       cond-then (insideAt s at n) _ _ _ (λ inside.
       cond-else (namedBefore es (entryAt s at)) _ _ _ (λ fresh.
-      let here = taken s at n most whole no-1 no-8 inside in
-      let some = body-some at whole in
-      walk-same fuel fuel′ n (entryAt s at ∷ es) (nextAt s at) most (offset-on s es at here fresh h) (omega arith) (omega arith)))))))
+      let here = taken s at whole no-1 no-8 n most inside in
+      let some = body s at whole .0 in
+      walk-same fuel fuel′ n (entryAt s at ∷ es) (nextAt s at) most (offset-on s es at most here fresh h) (omega arith) (omega arith)))))))
 
   pub reading-same : reading t ≡ reading s
   unfolding reading

@@ -8,10 +8,10 @@ use borrow.Author.Needs.{needs}
 use borrow.Author.Tests.{not-true, not-false}
 use Rattle.model.specs.File.{Entry, insideAt, entryAt, namedBefore, walk}
 use Rattle.file_records.specs.Marks.{marked}
-use Rattle.theory_files.specs.Files.{Within}
+use Rattle.theory_files.proofs.RecordKinds.{Taken}
 use Rattle.file_walk.specs.Steps.{Agrees, Names}
 use Rattle.file_walk.proofs.WalkLaws.{outside, twice, fresh}
-use Rattle.file_walk.proofs.NameLaws.{bodied, sectors-of, within-of, names-of}
+use Rattle.file_walk.proofs.NameLaws.{bodied, named, names-of}
 use Rattle.file_walk.proofs.Loops.{takes}
 use Rattle.file_walk.proofs.ask_cell.Statement.{statement}
 use Rattle.file_walk.proofs.ask_cell.Tie as tie
@@ -23,8 +23,8 @@ entry c = c .before .before .before .before
 inside : (c : tie.Else1) → insideAt (entry c .args .file .now) (entry c .args .at) (entry c .args .n) ≡ true
 inside c = sym (c .before .is-inside .ensures) ∙ not-false _ (c .if1 .left)
 
-within : (c : tie.Else1) → Within (entry c .args .n) (entryAt (entry c .args .file .now) (entry c .args .at))
-within c = let s = entry c in within-of (s .args .file .now) (s .args .at) (s .pre .2) (s .pre .3) (s .args .n) (s .pre .0) (inside c)
+is-taken : (c : tie.Else1) → Taken (entry c .args .n) (entry c .args .file .now) (entry c .args .at)
+is-taken c = let s = entry c in named (s .args .file .now) (s .args .at) (s .pre .2) (s .pre .3) (s .args .n) (s .pre .0) (inside c)
 
 -- the marks tell whether the cell was named before
 told :
@@ -56,17 +56,17 @@ returns c =
 word-at-requires : tie.Need-word-at-requires
 word-at-requires c κs =
     let s = entry c in
-    (bodied (s .args .file .now) (s .args .at) (s .pre .2) (s .pre .3), sectors-of (s .args .file .now) (s .args .at) (s .pre .2) (s .pre .3) (s .args .n) (s .pre .0) (inside c))
+    (bodied (s .args .file .now) (s .args .at) (s .pre .2) (s .pre .3), is-taken c .sectors)
 
 position-at-requires : tie.Need-position-at-requires
 position-at-requires c κs =
     let s = entry (c .before) in
-    (bodied (s .args .file .now) (s .args .at) (s .pre .2) (s .pre .3), sectors-of (s .args .file .now) (s .args .at) (s .pre .2) (s .pre .3) (s .args .n) (s .pre .0) (inside (c .before)))
+    (bodied (s .args .file .now) (s .args .at) (s .pre .2) (s .pre .3), is-taken (c .before) .sectors)
 
 is-marked-requires : tie.Need-is-marked-requires
 is-marked-requires c κs =
     let s = entry (c .before .before) in
-    let w = within (c .before .before) in
+    let w = is-taken (c .before .before) .within in
     (omega (arith, w .known, s .pre .1, c .before .word-at .ensures), omega (arith, w .place, s .pre .0, c .position-at .ensures))
 
 returns-2 : tie.Need-returns-2

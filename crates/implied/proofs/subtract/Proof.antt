@@ -1,27 +1,21 @@
 -- `implied::subtract` meets its contract: the cells below i are those of the demand. Assumes nothing.
-use mathlib.Core.Path.{_≡_, ap}
-use Prim.Native.Nat.{ℕ, _≤_, _-_}
+use mathlib.Core.Path.{ap}
+use Prim.Native.Nat.{ℕ, _-_}
 use native.Mathlib.Omega.{arith}
-use lib.ListN.{length, length-set}
 use Rattle.model.specs.Numbers.{at, cell}
 use Rattle.model.specs.Rounds.{intermediate, impliedDemand}
-use Rattle.theory.proofs.Lists.{Agree, agree-none, agree-set, tabulated}
+use Rattle.theory.proofs.Lists.{Front, front-none, front-set, front-done}
 use Rattle.implied.proofs.subtract.Statement.{statement}
 use Rattle.implied.proofs.subtract.Tie as tie
 
 abbrev Inv-loop : tie.InvT-loop
-Inv-loop n d y out₀ i₀ out i = (i ≤ n) × (length out ≡ n) × Agree out i (λ k. cell y k - intermediate n (at n d) (cell y) k)
+Inv-loop n d y out₀ i₀ out i = Front n (λ k. cell y k - intermediate n (at n d) (cell y) k) out i
 
 abbrev μ-loop : tie.MeasureT-loop
 μ-loop n d y out₀ i₀ out i = n - i
 
 abbrev entry : tie.At-loop Inv-loop μ-loop → tie.Start Inv-loop μ-loop
 entry p = p .before .before .before .before
-
-loop-holds : tie.Need-loop-holds Inv-loop μ-loop
-loop-holds c =
-    let s = c .before .before .before in
-    (omega arith, s .pre .0 .2, agree-none (s .args .out .now) _)
 
 intermediate-use-requires : tie.Need-intermediate-use-requires Inv-loop μ-loop
 intermediate-use-requires c κs =
@@ -37,21 +31,18 @@ sub-out c =
 
 loop-again : tie.Need-loop-again Inv-loop μ-loop
 loop-again c =
-    let p = c .before .before .before in
-    let l = p .loop in
-    let written = ap (λ (t : ℕ). cell (entry p .args .y .now) (l .i) - t) (c .intermediate-use .ensures) in
-    (omega arith, simp length-set (l .inv .1), agree-set (l .out) (l .i) _ _ (omega arith) written (l .inv .2))
+    let q = c .before .before in
+    let p = q .before in
+    front-set (p .loop .inv) (q .loop-test .taken) (ap (λ (t : ℕ). cell (entry p .args .y .now) (p .loop .i) - t) (c .intermediate-use .ensures))
 
 returns : tie.Need-returns Inv-loop μ-loop
 unfolding impliedDemand
-returns c =
-    let l = c .before .loop in
-    tabulated _ (l .i) _ (l .out) (l .inv .1) (c .loop-test .left) (l .inv .2)
+returns c = front-done (c .before .loop .inv) (c .loop-test .left)
 
 pub subtract-spec : {M : Type 1} → statement M
 subtract-spec =
     tie.close
     (tie.spec
-    Inv-loop μ-loop loop-holds (λ c. omega arith) (λ c. omega arith) intermediate-use-requires sub-out
+    Inv-loop μ-loop (λ c. front-none (c .before .before .before .pre .0 .2)) (λ c. omega arith) (λ c. omega arith) intermediate-use-requires sub-out
     (λ c. omega arith) (λ c. omega arith) (λ c. omega arith) (λ c. omega arith) loop-again (λ c. omega arith)
     returns)

@@ -1,22 +1,20 @@
 -- `induced::fill_induced_imports` meets its contract: the cells below i are those of the definition. Assumes nothing.
-use mathlib.Core.Path.{_≡_, ap, _∙_}
+use mathlib.Core.Path.{ap, _∙_}
 use Prim.Native.Nat.{ℕ, _+_, _*_, _≤_, _-_}
 use native.Mathlib.Nat.{mul-le-mul, mul-le-mul-left, le-trans}
 use native.Mathlib.Omega.{arith}
-use lib.ListN.{length, length-set}
 use Rattle.model.specs.Numbers.{one, at, cell}
 use Rattle.model.specs.Table.{portion}
 use Rattle.model.specs.Rounds.{weighted, intermediate, inducedImports}
 use Rattle.model.specs.Checks.{productionLimit}
 use Rattle.theory.proofs.Sums.{cell-in}
-use Rattle.theory.proofs.Lists.{Agree, agree-none, agree-set, tabulated}
+use Rattle.theory.proofs.Lists.{Front, front-none, front-set, front-done}
 use Rattle.theory_rounds.proofs.Rounds.{weighted-shares, intermediate-within}
 use Rattle.induced.proofs.fill_induced_imports.Statement.{statement}
 use Rattle.induced.proofs.fill_induced_imports.Tie as tie
 
 abbrev Inv-loop : tie.InvT-loop
-Inv-loop n a m demand y out₀ i₀ out i =
-    (i ≤ n) × (length out ≡ n) × Agree out i (λ k. portion (cell m k) (intermediate n (at n a) (cell y) k + cell demand k))
+Inv-loop n a m demand y out₀ i₀ out i = Front n (λ k. portion (cell m k) (intermediate n (at n a) (cell y) k + cell demand k)) out i
 
 abbrev μ-loop : tie.MeasureT-loop
 μ-loop n a m demand y out₀ i₀ out i = n - i
@@ -50,11 +48,6 @@ needed q =
       s .pre .1 .1 .1 .0 i (q .before .loop-test .taken),
     )
 
-loop-holds : tie.Need-loop-holds Inv-loop μ-loop
-loop-holds c =
-    let s = c .before .before .before .before .before in
-    (omega arith, s .pre .0 .4, agree-none (s .args .out .now) _)
-
 intermediate-use-requires : tie.Need-intermediate-use-requires Inv-loop μ-loop
 intermediate-use-requires c κs =
     let s = entry (c .before) in
@@ -77,21 +70,19 @@ loop-again : tie.Need-loop-again Inv-loop μ-loop
 loop-again c =
     let q = c .before .before .before in
     let p = q .before .before in
-    let l = p .loop in
+    let i = p .loop .i in
     let a = entry p .args in
-    let written = c .portion-of .ensures ∙ ap (λ (t : ℕ). portion (cell (a .m .now) (l .i)) (t + cell (a .final-demand .now) (l .i))) (q .intermediate-use .ensures) in
-    (omega arith, simp length-set (l .inv .1), agree-set (l .out) (l .i) _ _ (omega arith) written (l .inv .2))
+    front-set (p .loop .inv) (q .before .loop-test .taken)
+    (c .portion-of .ensures ∙ ap (λ (t : ℕ). portion (cell (a .m .now) i) (t + cell (a .final-demand .now) i)) (q .intermediate-use .ensures))
 
 returns : tie.Need-returns Inv-loop μ-loop
 unfolding inducedImports
-returns c =
-    let l = c .before .loop in
-    tabulated _ (l .i) _ (l .out) (l .inv .1) (c .loop-test .left) (l .inv .2)
+returns c = front-done (c .before .loop .inv) (c .loop-test .left)
 
 pub fill-induced-imports-spec : {M : Type 1} → statement M
 fill-induced-imports-spec =
     tie.close
     (tie.spec
-    Inv-loop μ-loop loop-holds intermediate-use-requires (λ c. omega arith) (λ c. omega arith) (λ c. omega arith) (λ c. omega arith)
+    Inv-loop μ-loop (λ c. front-none (c .before .before .before .before .before .pre .0 .4)) intermediate-use-requires (λ c. omega arith) (λ c. omega arith) (λ c. omega arith) (λ c. omega arith)
     add-portion-of portion-of-requires
     (λ c. omega arith) (λ c. omega arith) (λ c. omega arith) (λ c. omega arith) loop-again (λ c. omega arith) returns)

@@ -28,8 +28,8 @@ given p =
     accepted-induced (a .n) (a .a .now) (a .m .now) (a .v .now) (a .final-demand .now) (a .production .now) (length (a .value .now) ∷ length (a .imports .now) ∷ [])
     (ap (λ (r : Report). r .accepted) (sym (accepted p)))
 
-fill-value-added-requires : tie.Need-fill-value-added-requires
-fill-value-added-requires c κs =
+fill-induced-value-added-requires : tie.Need-fill-induced-value-added-requires
+fill-induced-value-added-requires c κs =
     let p = c .before in
     let g = given p in
     ((g .sizes .values, g .sizes .production, g .sizes .slices .0), (g .values-small, g .total))
@@ -51,12 +51,12 @@ returns c =
 returns-2 : tie.Need-returns-2
 returns-2 c =
     let p = c .before .before .before .before .before .before .before .before in
-    record { answer = accepted p; values = c .before .before .before .before .before .before .fill-value-added .ensures; imported = c .before .before .fill-induced-imports .ensures }
+    record { answer = accepted p; values = c .before .before .before .before .before .before .fill-induced-value-added .ensures; imported = c .before .before .fill-induced-imports .ensures }
 
 pub induced-spec : {M : Type 1} → statement M
 induced-spec =
     tie.close
     (tie.spec
     (λ c κs. search needs) (λ c. search needs) (λ c κs. search needs) (λ c κs. search needs) (λ c. search needs)
-    fill-value-added-requires fill-induced-imports-requires (λ c. search needs) (λ c. search needs) returns (λ c. search needs)
+    fill-induced-value-added-requires fill-induced-imports-requires (λ c. search needs) (λ c. search needs) returns (λ c. search needs)
     (λ c. search needs) returns-2)

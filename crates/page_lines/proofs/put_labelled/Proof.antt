@@ -4,7 +4,7 @@ use mathlib.Core.List.{List, _++_, map}
 use Prim.Native.Nat.{ℕ}
 use borrow.Author.Needs.{needs}
 use Rattle.model.specs.Text.{decimal, rest}
-use Rattle.page_text.proofs.Stores.{Begun, begin, go-on, done, room, room-first}
+use Rattle.theory.proofs.Stores.{Begun, begin, go-on, done, room, room-first}
 use Rattle.page_lines.proofs.put_labelled.Statement.{statement}
 use Rattle.page_lines.proofs.put_labelled.Tie as tie
 

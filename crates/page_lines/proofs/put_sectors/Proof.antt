@@ -2,7 +2,7 @@
 use Prim.Native.Nat.{_-_, _≤_}
 use native.Mathlib.Omega.{arith}
 use Rattle.model.specs.Page.{sectorLine}
-use Rattle.page_text.proofs.Stores.{kept}
+use Rattle.theory.proofs.Stores.{kept}
 use Rattle.page_lines.proofs.LineLaws.{Lines, no-lines, line-left, line-room, line-more, lines-done}
 use Rattle.page_lines.proofs.put_sectors.Statement.{statement}
 use Rattle.page_lines.proofs.put_sectors.Tie as tie

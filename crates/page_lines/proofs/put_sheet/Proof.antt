@@ -7,7 +7,7 @@ use borrow.Author.Needs.{needs}
 use lib.ListN.{length}
 use Rattle.model.specs.Text.{line}
 use Rattle.model.specs.Page.{headings, sectorLine, linesTo, roundsLine, sheet}
-use Rattle.page_text.proofs.Stores.{Begun, begin, go-on, done, room, room-first}
+use Rattle.theory.proofs.Stores.{Begun, begin, go-on, done, room, room-first}
 use Rattle.page_lines.proofs.put_sheet.Statement.{statement}
 use Rattle.page_lines.proofs.put_sheet.Tie as tie
 

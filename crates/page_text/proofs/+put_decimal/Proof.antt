@@ -9,7 +9,7 @@ use borrow.Fn.Kinds.{In}
 use borrow.Fn.PlainCycle.{Measures, is, falls, and}
 use lib.ListN.{length, length-set}
 use Rattle.model.specs.Text.{decimal}
-use Rattle.page_text.proofs.Stores.{Begun, begin, go-on, done, kept, room, room-first}
+use Rattle.theory.proofs.Stores.{Begun, begin, go-on, done, kept, room, room-first}
 use Rattle.theory.proofs.Decimals.{decimal-one, decimal-more}
 use Rattle.page_text.proofs.put_decimal.Reads as put-decimal
 use Rattle.page_text.proofs.put_decimal.Kinds as put-decimal-kinds

@@ -3,7 +3,7 @@ use mathlib.Core.Path.{refl}
 use mathlib.Core.List.{[], _∷_}
 use borrow.Author.Needs.{needs}
 use Rattle.model.specs.Text.{decimal}
-use Rattle.page_text.proofs.Stores.{begin, go-on, done}
+use Rattle.theory.proofs.Stores.{begin, go-on, done}
 use Rattle.page_text.proofs.put_field.Statement.{statement}
 use Rattle.page_text.proofs.put_field.Tie as tie
 

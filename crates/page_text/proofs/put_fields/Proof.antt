@@ -7,7 +7,7 @@ use borrow.Author.Needs.{needs}
 use lib.ListN.{length, getD, take, drop, length-drop, drop-of-length-le}
 use lib.Seq.{take-all}
 use Rattle.model.specs.Text.{decimal, rest, line}
-use Rattle.page_text.proofs.Stores.{Begun, begin, go-on, leaves, done, room, room-first, drop-first}
+use Rattle.theory.proofs.Stores.{Begun, begin, go-on, leaves, done, room, room-first, drop-first}
 use Rattle.page_text.proofs.put_fields.Statement.{statement}
 use Rattle.page_text.proofs.put_fields.Tie as tie
 

@@ -5,7 +5,7 @@ use Prim.Native.Nat.{ℕ, _+_, _-_, _≤_, _<_}
 use native.Mathlib.Omega.{arith}
 use lib.ListN.{length, getD, drop, drop-of-length-le}
 use Rattle.model.specs.Text.{decimal, rest}
-use Rattle.page_text.proofs.Stores.{Begun, begin, go-on, leaves, done, kept, room, room-first, drop-first}
+use Rattle.theory.proofs.Stores.{Begun, begin, go-on, leaves, done, kept, room, room-first, drop-first}
 use Rattle.page_text.proofs.put_rest.Statement.{statement}
 use Rattle.page_text.proofs.put_rest.Tie as tie
 

@@ -5,7 +5,7 @@ use Prim.Native.Nat.{ℕ, _+_, _-_, _≤_}
 use native.Mathlib.Omega.{arith}
 use lib.ListN.{length, getD, drop, drop-of-length-le}
 use lib.Seq.{sets}
-use Rattle.page_text.proofs.Stores.{Begun, begin, go-on, done, kept, drop-first}
+use Rattle.theory.proofs.Stores.{Begun, begin, go-on, done, kept, drop-first}
 use Rattle.page_text.proofs.put_text.Statement.{statement}
 use Rattle.page_text.proofs.put_text.Tie as tie
 

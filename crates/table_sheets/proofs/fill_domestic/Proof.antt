@@ -1,18 +1,18 @@
 -- `table_sheets::fill_domestic` meets its contract: the cells below k are those of the definition. Assumes nothing.
-use mathlib.Core.Path.{_≡_, sym, ap, _∙_}
+use mathlib.Core.Path.{sym, ap, _∙_}
 use Prim.Native.Nat.{_*_, _-_, _/_, _%_, _≤_, _<_}
 use native.Mathlib.Nat.{mul-le-mul, sub-le}
 use native.Mathlib.Omega.{arith}
-use lib.ListN.{length, length-set}
+use lib.ListN.{length}
 use Rattle.model.specs.Numbers.{one, at, cell}
 use Rattle.model.specs.Table.{portion, sectorLimit}
-use Rattle.theory.proofs.Lists.{Agree, agree-none, agree-set, tabulated}
+use Rattle.theory.proofs.Lists.{Front, front-none, front-set, front-done}
 use Rattle.theory.proofs.Matrices.{place-row, place-cell}
 use Rattle.table_sheets.proofs.fill_domestic.Statement.{statement}
 use Rattle.table_sheets.proofs.fill_domestic.Tie as tie
 
 abbrev Inv-loop : tie.InvT-loop
-Inv-loop n a m d₀ cells k₀ d k = (k ≤ n * n) × (length d ≡ n * n) × Agree d k (λ p. portion (one - cell m (p / n)) (at n a (p / n) (p % n)))
+Inv-loop n a m d₀ cells k₀ d k = Front (n * n) (λ p. portion (one - cell m (p / n)) (at n a (p / n) (p % n))) d k
 
 abbrev μ-loop : tie.MeasureT-loop
 μ-loop n a m d₀ cells k₀ d k = n * n - k
@@ -36,11 +36,6 @@ share-small c = let s = entry (c .before) in s .pre .1 .1 (c .before .loop .k / 
 mul-cells : tie.Need-mul-cells Inv-loop μ-loop
 mul-cells c = let s = c .before .before .before in omega (arith, mul-le-mul (s .pre .0 .1) (s .pre .0 .1))
 
-loop-holds : tie.Need-loop-holds Inv-loop μ-loop
-loop-holds c =
-    let s = c .before .before .before in
-    (omega arith, s .pre .0 .4, agree-none (s .args .d .now) _)
-
 portion-of-requires : tie.Need-portion-of-requires Inv-loop μ-loop
 portion-of-requires c κs =
     let p = c .before .before .before in
@@ -50,20 +45,16 @@ portion-of-requires c κs =
 
 loop-again : tie.Need-loop-again Inv-loop μ-loop
 loop-again c =
-    let p = c .before .before .before .before in
-    let l = p .loop in
-    let a = entry p .args in
-    let written = c .portion-of .ensures ∙ ap (portion (one - cell (a .m .now) (l .k / a .n))) (sym (place-cell (a .n) (a .a .now) (l .k))) in
-    (omega arith, simp length-set (l .inv .1), agree-set (l .d) (l .k) _ _ (omega arith) written (l .inv .2))
-
-returns : tie.Need-returns Inv-loop μ-loop
-returns c =
-    let l = c .before .loop in
-    tabulated _ (l .k) _ (l .d) (l .inv .1) (c .loop-test .left) (l .inv .2)
+    let q = c .before .before .before in
+    let k = q .before .loop .k in
+    let a = entry (q .before) .args in
+    front-set (q .before .loop .inv) (q .loop-test .taken)
+    (c .portion-of .ensures ∙ ap (portion (one - cell (a .m .now) (k / a .n))) (sym (place-cell (a .n) (a .a .now) k)))
 
 pub fill-domestic-spec : {M : Type 1} → statement M
 fill-domestic-spec =
     tie.close
     (tie.spec
-    Inv-loop μ-loop mul-cells loop-holds (λ c. entry (c .before) .pre .0 .0) (λ c. omega (arith, in-column c)) (λ c. in-slice (c .before)) (λ c. share-small (c .before)) (λ c. omega arith) (λ c. omega arith) portion-of-requires
-    (λ c. omega arith) (λ c. omega arith) (λ c. omega arith) (λ c. omega arith) loop-again (λ c. omega arith) returns)
+    Inv-loop μ-loop mul-cells (λ c. front-none (c .before .before .before .pre .0 .4)) (λ c. entry (c .before) .pre .0 .0) (λ c. omega (arith, in-column c)) (λ c. in-slice (c .before)) (λ c. share-small (c .before)) (λ c. omega arith) (λ c. omega arith) portion-of-requires
+    (λ c. omega arith) (λ c. omega arith) (λ c. omega arith) (λ c. omega arith) loop-again (λ c. omega arith)
+    (λ c. front-done (c .before .loop .inv) (c .loop-test .left)))

@@ -1,18 +1,17 @@
 -- `table_sheets::fill_inputs` meets its contract: the cells below k are those of the definition. Assumes nothing.
-use mathlib.Core.Path.{_≡_, sym, ap, _∙_}
+use mathlib.Core.Path.{sym, ap, _∙_}
 use Prim.Native.Nat.{ℕ, _*_, _-_, _/_, _%_, _≤_, _<_}
 use native.Mathlib.Nat.{mul-le-mul}
 use native.Mathlib.Omega.{arith}
-use lib.ListN.{length, length-set}
 use Rattle.model.specs.Numbers.{at, cell}
 use Rattle.model.specs.Table.{share, sectorLimit}
-use Rattle.theory.proofs.Lists.{Agree, agree-none, agree-set, tabulated}
+use Rattle.theory.proofs.Lists.{Front, front-none, front-set, front-done}
 use Rattle.theory.proofs.Matrices.{place-column, place-cell}
 use Rattle.table_sheets.proofs.fill_inputs.Statement.{statement}
 use Rattle.table_sheets.proofs.fill_inputs.Tie as tie
 
 abbrev Inv-loop : tie.InvT-loop
-Inv-loop n x production a₀ cells k₀ a k = (k ≤ n * n) × (length a ≡ n * n) × Agree a k (λ p. share (at n x (p / n) (p % n)) (cell production (p % n)))
+Inv-loop n x production a₀ cells k₀ a k = Front (n * n) (λ p. share (at n x (p / n) (p % n)) (cell production (p % n))) a k
 
 abbrev μ-loop : tie.MeasureT-loop
 μ-loop n x production a₀ cells k₀ a k = n * n - k
@@ -29,11 +28,6 @@ in-row c = let s = entry (c .before .before) in (place-column (s .args .n) (c .b
 
 mul-cells : tie.Need-mul-cells Inv-loop μ-loop
 mul-cells c = let s = c .before .before .before in omega (arith, mul-le-mul (s .pre .0 .1) (s .pre .0 .1))
-
-loop-holds : tie.Need-loop-holds Inv-loop μ-loop
-loop-holds c =
-    let s = c .before .before .before in
-    (omega arith, s .pre .0 .4, agree-none (s .args .a .now) _)
 
 rem-share-of : tie.Need-rem-share-of Inv-loop μ-loop
 rem-share-of c = entry (c .before .before) .pre .0 .0
@@ -52,20 +46,16 @@ share-of-requires c κs =
 
 loop-again : tie.Need-loop-again Inv-loop μ-loop
 loop-again c =
-    let p = c .before .before .before .before in
-    let l = p .loop in
-    let a = entry p .args in
-    let written = c .share-of .ensures ∙ ap (λ (x : ℕ). share x (cell (a .production .now) (l .k % a .n))) (sym (place-cell (a .n) (a .x .now) (l .k))) in
-    (omega arith, simp length-set (l .inv .1), agree-set (l .a) (l .k) _ _ (omega arith) written (l .inv .2))
-
-returns : tie.Need-returns Inv-loop μ-loop
-returns c =
-    let l = c .before .loop in
-    tabulated _ (l .k) _ (l .a) (l .inv .1) (c .loop-test .left) (l .inv .2)
+    let q = c .before .before .before in
+    let k = q .before .loop .k in
+    let a = entry (q .before) .args in
+    front-set (q .before .loop .inv) (q .loop-test .taken)
+    (c .share-of .ensures ∙ ap (λ (x : ℕ). share x (cell (a .production .now) (k % a .n))) (sym (place-cell (a .n) (a .x .now) k)))
 
 pub fill-inputs-spec : {M : Type 1} → statement M
 fill-inputs-spec =
     tie.close
     (tie.spec
-    Inv-loop μ-loop mul-cells loop-holds (λ c. omega arith) (λ c. omega arith) rem-share-of (λ c. omega (arith, in-row c)) shared-slice-read-share-of-2 share-of-requires
-    (λ c. omega arith) (λ c. omega arith) (λ c. omega arith) (λ c. omega arith) loop-again (λ c. omega arith) returns)
+    Inv-loop μ-loop mul-cells (λ c. front-none (c .before .before .before .pre .0 .4)) (λ c. omega arith) (λ c. omega arith) rem-share-of (λ c. omega (arith, in-row c)) shared-slice-read-share-of-2 share-of-requires
+    (λ c. omega arith) (λ c. omega arith) (λ c. omega arith) (λ c. omega arith) loop-again (λ c. omega arith)
+    (λ c. front-done (c .before .loop .inv) (c .loop-test .left)))

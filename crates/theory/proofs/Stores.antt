@@ -15,7 +15,7 @@ sets-append (x ∷ a) b l i =
     sets-append a b (set l i x) (suc i)
     ∙ ap (λ (k : ℕ). sets (sets (set l i x) (suc i) a) k b) (suc-add i (length a) ∙ sym (add-suc i (length a)))
 
--- what this crate's functions ensure: they wrote the text at i into l, which then is m, and answer j
+-- what a function that writes a text ensures: it wrote the text at i into l, which then is m, and returns j
 abbrev pub Wrote : List ℕ → ℕ → List ℕ → List ℕ → ℕ → Type 0
 Wrote text i l m j = (j ≡ i + length text) × (m ≡ sets l i text)
 
