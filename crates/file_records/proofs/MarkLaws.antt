@@ -9,10 +9,11 @@ use native.Mathlib.Omega.{arith}
 use borrow.Author.Tests.{eq-eqb, ne-eqb}
 use lib.Bits.{bitOr, or-shr, or-mod, shifted-even}
 use lib.Dec.{eqb, lit<}
-use lib.ListN.{length, set, replicate, getD-replicate, length-replicate, List·getD-eq-default}
+use lib.ListN.{length, set, replicate}
 use lib.Pow.{pow-lt, pow-add, shl-shr, shl-exact}
 use lib.Seq.{getD-set-same, getD-set-other}
 use Rattle.model.specs.Numbers.{cell, bit}
+use Rattle.theory.proofs.Lists.{cell-zeros}
 use Rattle.file_records.specs.Marks.{marked}
 
 -- of two bits, `or` is the larger
@@ -94,8 +95,4 @@ module _ (marks : List ℕ) (l p : ℕ) (hl : l < length marks) (hp : p < 64) wh
 -- words of 0 mark nothing
 pub marked-none : (len i k : ℕ) → marked (replicate len 0) i k ≡ false
 unfolding marked
-marked-none len i k = ap (λ (w : ℕ). eqb (bit w k) 1) (none (decLt i len)) ∙ ap (λ (b : ℕ). eqb (b % 2) 1) (zero-div (2 ^ k))
-  where
-    none : Dec (i < len) → _≡_ {A = ℕ} (cell (replicate len 0) i) 0
-    none (yes h) = getD-replicate len i 0 0 h
-    none (no h) = List·getD-eq-default (replicate len 0) 0 (subst (λ (n : ℕ). n ≤ i) (sym (length-replicate len 0)) (omega arith))
+marked-none len i k = ap (λ (w : ℕ). eqb (bit w k) 1) (cell-zeros len i) ∙ ap (λ (b : ℕ). eqb (b % 2) 1) (zero-div (2 ^ k))

@@ -53,9 +53,12 @@ reportPage (PageWritten·Refused q p) = refuses 1 q p
 abbrev pub reportTold : (number place : ℕ) (counts : List ℕ) → Report
 reportTold q p ks = record { accepted = eqb q 0; number = q; place = p; counts = ks }
 
--- the count of rounds of a call that has one
+-- the count of rounds of a call that has one, and the sectors that a reader tells
 abbrev pub roundsOf : Report → ℕ
 roundsOf r = cell (r .counts) 0
+
+abbrev pub sectorsOf : Report → ℕ
+sectorsOf r = cell (r .counts) 0
 
 -- A check: its number, the place of its first cell, how many cells it has, and a test of each
 pub record Check : Type 0 where

@@ -3,14 +3,14 @@
 -- number, place, counts and every lent cell are those of the definitions.
 use mathlib.Core.Path.{_≡_}
 use mathlib.Core.Bool.{true}
-use mathlib.Core.List.{List, [], _∷_}
-use Prim.Native.Nat.{ℕ}
-use lib.ListN.{length, replicate}
-use Rattle.model.specs.Numbers.{Cells, at, transposed}
+use mathlib.Core.List.{List, [], _∷_, map}
+use Prim.Native.Nat.{ℕ, _*_, _≤_}
+use lib.ListN.{length, getD, replicate}
+use Rattle.model.specs.Numbers.{Cells, cell, at, transposed}
 use Rattle.model.specs.Table.{Table}
 use Rattle.model.specs.Bytes.{Bytes}
 use Rattle.model.specs.Rounds.{settled, Settles, impliedDemand, inducedValueAdded, inducedImports, inverse, dispersion}
-use Rattle.model.specs.Checks.{Report, accepts, output, reportRead, roundsOf}
+use Rattle.model.specs.Checks.{Report, accepts, output, reportRead, roundsOf, sectorsOf}
 use Rattle.model.specs.Calls.{coefficientsReport, inputCoefficients, valueAddedCoefficients, importCoefficients, domesticCoefficients, domesticDemands, productionReport, priceReport, impliedReport, inducedReport, inverseReport}
 use Rattle.model.specs.Promises.{Distinguishes, Accurate, AccuratePrices, Returns, NotAbove}
 use Rattle.model.specs.File.{Reading, called, answerOf, flowsRead, columnRead, columnWord}
@@ -83,11 +83,12 @@ abbrev pub slicesOf : (x f e m v p w : Cells) → Slices
 slicesOf x f e m v p w =
     record { flows = x; finalDemand = f; exports = e; imports = m; valueAdded = v; production = p; rises = w }
 
+abbrev pub columnsOf : Slices → List Cells
+columnsOf s = s .finalDemand ∷ s .exports ∷ s .imports ∷ s .valueAdded ∷ s .production ∷ s .rises ∷ []
+
 -- the reading of a file into slices and work words of these lengths
 abbrev pub readingInto : (file : Bytes) (s₀ : Slices) (marks₀ : Cells) → Reading
-readingInto file s₀ marks₀ =
-    let columns = length (s₀ .finalDemand) ∷ length (s₀ .exports) ∷ length (s₀ .imports) ∷ length (s₀ .valueAdded) ∷ length (s₀ .production) ∷ length (s₀ .rises) ∷ [] in
-    called (length (s₀ .flows)) columns (length marks₀) file
+readingInto file s₀ marks₀ = called (length (s₀ .flows)) (map length (columnsOf s₀)) (length marks₀) file
 
 -- what a reading leaves in the slices; the columns by their words
 pub record Delivered (o : Reading) (s₀ s : Slices) : Type 0 where
@@ -99,10 +100,16 @@ pub record Delivered (o : Reading) (s₀ s : Slices) : Type 0 where
   pub production : s .production ≡ columnRead (columnWord 4) (length (s₀ .production)) o
   pub rises : s .rises ≡ columnRead (columnWord 5) (length (s₀ .rises)) o
 
--- A table file read into slices
+-- "Cells beyond n are 0": of x from cell n × n on, and of each column from cell n on
+pub record Beyond (n : ℕ) (s : Slices) : Type 0 where
+  pub flows : (k : ℕ) → n * n ≤ k → cell (s .flows) k ≡ 0
+  pub columns : (c k : ℕ) → n ≤ k → cell (getD (columnsOf s) c []) k ≡ 0
+
+-- A table file read into slices. `beyond` speaks of the n that the answer tells: after a refusal that is 0, and so is every cell
 pub record FileRead (file : Bytes) (s₀ : Slices) (marks₀ : Cells) (r : Report) (s : Slices) (marks : Cells) : Type 0 where
   pub answer : r ≡ reportRead (answerOf (readingInto file s₀ marks₀))
   pub delivered : Delivered (readingInto file s₀ marks₀) s₀ s
+  pub beyond : Beyond (sectorsOf r) s
   pub cleared : marks ≡ replicate (length marks₀) 0
 
 -- The page of a table file, written into a buffer of 2,851 bytes, and how many bytes it has

@@ -4,12 +4,13 @@ use mathlib.Core.List.{List, [], _∷_}
 use mathlib.Core.Path.{_≡_, refl, sym, ap, _∙_, subst⁻¹}
 use Prim.Native.Nat.{ℕ, zero, suc, _+_, _<_, _≤_, suc-le-suc, zero-le}
 use native.Mathlib.Nat.{not-suc-le-zero, le-of-suc-le-suc, le-step, lt-suc-self, zero-lt-suc, ne-of-lt, lt-of-lt-of-le, le-refl}
+use native.Mathlib.Decide.{decLt}
 use native.Mathlib.Numerals.{add-one}
 use native.Mathlib.Omega.{arith}
 use borrow.Author.Count.{below-more}
 use borrow.Author.Tests.{eq-eqb, eqb-true}
 use lib.Dec.{eqb}
-use lib.ListN.{length, set, replicate, take, length-set, length-replicate, getD-replicate}
+use lib.ListN.{length, set, replicate, take, length-set, length-replicate, getD-replicate, List·getD-eq-default}
 use lib.Seq.{ext-getD, getD-set-same, getD-set-other, length-take-le, getD-take}
 use Rattle.model.specs.Numbers.{first, all, tabulate, cell, same}
 use Rattle.model.specs.Promises.{Equal}
@@ -181,3 +182,11 @@ equal-same (suc n) a b p =
 -- one sector more, whose amount in a is v
 pub same-more : (i : ℕ) (a b : List ℕ) {t : Bool} {v : ℕ} → t ≡ same i a b → v ≡ cell a i → t && eqb v (cell b i) ≡ same (i + 1) a b
 same-more i a b e f = rw (add-one, e, f)
+
+-- a cell of zeros is 0, also past their end
+pub cell-zeros : (len k : ℕ) → cell (replicate len 0) k ≡ 0
+cell-zeros len k = split (decLt k len)
+  where
+    split : Dec (k < len) → cell (replicate len 0) k ≡ 0
+    split (yes h) = getD-replicate len k 0 0 h
+    split (no h) = List·getD-eq-default (replicate len 0) 0 (omega (arith, length-replicate {A = ℕ} len 0))

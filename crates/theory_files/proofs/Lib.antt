@@ -5,3 +5,4 @@ pub mod RecordKinds
 pub mod Lengths
 pub mod Prefixes
 pub mod Readings
+pub mod Beyond

@@ -1,4 +1,4 @@
--- What a reading may be: a refusal with a number up to 15 and a place up to 12,649, or 1 to 40 sectors. Assumes nothing.
+-- What a reading may be: a refusal with a number up to 15 and a place up to 12,649, or 1 to 40 sectors and cells that such a table has. Assumes nothing.
 use mathlib.Core.Bool.{Bool, true, false, _&&_, cond}
 use mathlib.Core.List.{List, [], _∷_}
 use mathlib.Core.Path.{_≡_, refl, subst}
@@ -12,14 +12,20 @@ use lib.Seq.{length-take-le}
 use Rattle.model.specs.Numbers.{cell}
 use Rattle.model.specs.Table.{sectorLimit}
 use Rattle.model.specs.File.{Entry, kindAt, nextAt, wholeAt, insideAt, entryAt, namedBefore, Reading, walk, reading}
-use Rattle.theory_files.specs.Files.{inputLimit}
+use Rattle.theory_files.specs.Files.{inputLimit, Within}
 use Rattle.theory.proofs.Lists.{and-true}
+use Rattle.theory_files.proofs.RecordKinds.{taken}
 use Rattle.theory_files.proofs.Prefixes.{prefix-answers}
+
+-- each of the named cells is one that a table of n sectors has
+abbrev pub AllWithin : ℕ → List Entry → Type 0
+AllWithin n [] = Unit {0}
+AllWithin n (e ∷ es) = Within n e × AllWithin n es
 
 -- with places up to `most`
 abbrev pub Answered : ℕ → Reading → Type 0
 Answered most (Reading.refused number place) = (number ≤ 15) × (place ≤ most)
-Answered most (Reading.table n es) = (1 ≤ n) × (n ≤ sectorLimit)
+Answered most (Reading.table n es) = (1 ≤ n) × (n ≤ sectorLimit) × AllWithin n es
 
 -- with places in the file: a test that refuses where it passes, and one that refuses where it fails
 unless : (len : ℕ) (b : Bool) (x : Reading) (number place : ℕ) → (number ≤ 15) × (place ≤ len) → (b ≡ false → Answered len x)
@@ -32,24 +38,26 @@ provided : (len : ℕ) (b : Bool) (x : Reading) (number place : ℕ) → (number
 provided len true x number place r go = go refl
 provided len false x number place r go = r
 
-either : (len : ℕ) (b : Bool) (x y : Reading) → Answered len x → Answered len y → Answered len (cond b x y)
+either : (len : ℕ) (b : Bool) (x y : Reading) → Answered len x → (b ≡ false → Answered len y) → Answered len (cond b x y)
 either len true x y p q = p
-either len false x y p q = q
+either len false x y p q = q refl
 
-walk-answered : (fuel : ℕ) (s : List ℕ) (n : ℕ) (es : List Entry) (at : ℕ) → 1 ≤ n → n ≤ sectorLimit → Answered (length s) (walk fuel s n es at)
+walk-answered : (fuel : ℕ) (s : List ℕ) (n : ℕ) (es : List Entry) (at : ℕ) → 1 ≤ n → n ≤ sectorLimit → AllWithin n es
+    → Answered (length s) (walk fuel s n es at)
 unfolding walk
-walk-answered zero s n es at some few = (le-refl 15, le-refl (length s))
-walk-answered (suc fuel) s n es at some few =
+walk-answered zero s n es at some few all = (le-refl 15, le-refl (length s))
+walk-answered (suc fuel) s n es at some few all =
     let len = length s in
     unless len (leb len at) _ 15 len (le-refl 15, le-refl len) (λ on.
     let low = leb-false len at on in
     provided len (wholeAt s at) _ 11 at (lit≤ tt, omega arith) (λ whole.
     unless len (eqb (kindAt s at) 1) _ 12 at (lit≤ tt, omega arith) (λ later.
     either len (eqb (kindAt s at) 8) _ _
-    (provided len (eqb (at + 1) len) (Reading.table n es) 15 (at + 1) (le-refl 15, omega arith) (λ last. (some, few)))
-    (provided len (insideAt s at n) _ 13 at (lit≤ tt, omega arith) (λ inside.
+    (provided len (eqb (at + 1) len) (Reading.table n es) 15 (at + 1) (le-refl 15, omega arith) (λ last. (some, few, all)))
+    (λ names.
+    provided len (insideAt s at n) _ 13 at (lit≤ tt, omega arith) (λ inside.
     unless len (namedBefore es (entryAt s at)) _ 14 at (lit≤ tt, omega arith) (λ fresh.
-    walk-answered fuel s n (entryAt s at ∷ es) (nextAt s at) some few))))))
+    walk-answered fuel s n (entryAt s at ∷ es) (nextAt s at) some few (taken s at whole later names n few inside .within, all)))))))
 
 whole-answered : (s : List ℕ) → Answered (length s) (reading s)
 unfolding reading
@@ -61,7 +69,7 @@ whole-answered s =
     provided len (wholeAt s 0) _ 11 0 (lit≤ tt, omega arith) (λ whole.
     provided len (eqb (kindAt s 0) 1 && range) _ 12 0 (lit≤ tt, omega arith) (λ sized.
     let size = and-true (leb 1 n) (leb n sectorLimit) (and-true (eqb (kindAt s 0) 1) range sized .1) in
-    walk-answered len s n [] 2 (leb-true 1 n (size .0)) (leb-true n sectorLimit (size .1)))))
+    walk-answered len s n [] 2 (leb-true 1 n (size .0)) (leb-true n sectorLimit (size .1)) tt)))
 
 answered-more : (a b : ℕ) (r : Reading) → a ≤ b → Answered a r → Answered b r
 answered-more a b (Reading.refused number place) h p = (p .0, omega (arith, p .1))

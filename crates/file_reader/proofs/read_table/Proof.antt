@@ -2,6 +2,7 @@
 use mathlib.Core.Path.{refl, ap}
 use borrow.Author.Needs.{needs}
 use Rattle.model.specs.Checks.{reportRead}
+use Rattle.theory_files.proofs.Beyond.{beyond}
 use Rattle.file_reader.proofs.read_table.Statement.{statement}
 use Rattle.file_reader.proofs.read_table.Tie as tie
 
@@ -17,7 +18,9 @@ returns c =
     let d = c .before .before .before .before .before .before .before .before .before .before .before .before .before .before in
     let t = read d .read-called .ensures in
     let a = start (read d) .args in
-    record { answer = ap reportRead (t .0); delivered = d .deliver .ensures (a .marks .now) (a .file .now) _ refl (t .1); cleared = t .2 }
+    let answered = ap reportRead (t .0) in
+    let delivered = d .deliver .ensures (a .marks .now) (a .file .now) _ refl (t .1) in
+    record { answer = answered; delivered = delivered; beyond = rw answered (beyond (a .file .now) _ (a .marks .now) _ delivered); cleared = t .2 }
 
 pub read-table-spec : {M : Type 1} → statement M
 read-table-spec =
