@@ -113,14 +113,14 @@ pub extern "C" fn tawqeshim_row(
     sheet: &[u64],
     sector: usize,
     start: &mut usize,
-    length: &mut usize,
+    count: &mut usize,
 )
-    ensures { λ _. ⌜ ToldRow n (now (sheet .entry)) sector (now (start .exit)) (now (length .exit)) ⌝ }
+    ensures { λ _. ⌜ ToldRow n (now (sheet .entry)) sector (now (start .exit)) (now (count .exit)) ⌝ }
 {
     let cells = row(sheet, n, sector);
-    let count = cells.len();
-    *length = count;
-    if count == 0 {
+    let held = cells.len();
+    *count = held;
+    if held == 0 {
         *start = 0;
         return;
     }

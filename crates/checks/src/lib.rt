@@ -4,14 +4,13 @@ use model::Answer;
 use model::COLUMN_LIMIT;
 use model::PRODUCTION_LIMIT;
 use model::SECTORS;
-ghost use mathlib.Core.Bool.{_&&_};
 ghost use mathlib.Core.List.{List, [], _∷_, _++_};
 ghost use mathlib.Core.Path.{_≡_};
 ghost use Prim.Native.Nat.{ℕ, _+_, _*_, _^_, _<_, _≤_};
-ghost use lib.Dec.{eqb, leb};
+ghost use lib.Dec.{eqb};
 ghost use lib.ListN.{length};
 ghost use Rattle.model.specs.Numbers.{all, at, cell};
-ghost use Rattle.model.specs.Table.{sectorLimit};
+ghost use Rattle.model.specs.Table.{fewSectors};
 ghost use Rattle.model.specs.Rounds.{weighted};
 ghost use Rattle.model.specs.Checks.{Check, report, verdict, bounded, size, lengths, columnSums, productionTotal, demandLeft};
 ghost use Rattle.model.specs.Calls.{matrixChecks};
@@ -19,8 +18,8 @@ ghost use Rattle.theory_rounds.specs.Bounds.{sumLimit};
 ghost use Rattle.theory.specs.Slices.{Each};
 
 // Question 1: is n from 1 to 40?
-fn is_sized(n: usize) -> bool
-    ensures { λ r. ⌜ r ≡ leb 1 n && leb n sectorLimit ⌝ }
+pub fn is_sized(n: usize) -> bool
+    ensures { λ r. ⌜ r ≡ fewSectors n ⌝ }
 {
     if n < 1 {
         return false;
@@ -29,11 +28,11 @@ fn is_sized(n: usize) -> bool
 }
 
 // Is every length of a list n?
-pub fn all_equal(n: usize, lengths: &[usize]) -> bool
-    ensures { λ r. ⌜ r ≡ all (eqb n) (now (lengths .entry)) ⌝ }
+pub fn all_equal(n: usize, given: &[usize]) -> bool
+    ensures { λ r. ⌜ r ≡ all (eqb n) (now (given .entry)) ⌝ }
 {
-    for i in 0..lengths.len() {
-        if n != lengths[i] {
+    for i in 0..given.len() {
+        if n != given[i] {
             return false;
         }
     }
@@ -106,10 +105,10 @@ pub fn next_within(so_far: Answer, offset: usize, limit: u64, s: &[u64]) -> Answ
     requires { ⌜ offset + length (now s) < 2 ^ 64 ⌝ }
     ensures { λ r. ⌜ ((ps : List Check) → report «so_far» ≡ verdict ps [] → report r ≡ verdict (ps ++ (bounded 3 offset limit (now (s .entry)) ∷ [])) []) ⌝ }
 {
-    match so_far {
-        Answer::Refused { number, place } => Answer::Refused { number, place },
-        Answer::Accepted => cells_within(3, offset, limit, s),
-    }
+    let Answer::Accepted = so_far else {
+        return so_far;
+    };
+    cells_within(3, offset, limit, s)
 }
 
 // Question 7: is every column sum at most 950,000? A column is left at the first cell that takes its sum over.
@@ -143,9 +142,9 @@ pub fn check_matrix(n: usize, d: &[u64], matrices: &[usize], lent: &[usize]) -> 
     ensures { λ r. ⌜ report r ≡ verdict (size n ∷ lengths n (now (matrices .entry)) (now (lent .entry)) ∷ columnSums n (at n (now (d .entry))) ∷ []) [] ⌝ }
 {
     let sizes = check_sizes(n, matrices, lent);
-    if let Answer::Refused { number, place } = sizes {
-        return Answer::Refused { number, place };
-    }
+    let Answer::Accepted = sizes else {
+        return sizes;
+    };
     columns_within(n, d)
 }
 

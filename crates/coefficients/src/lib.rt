@@ -93,9 +93,9 @@ fn fill_sheets(
         d.len(),
         f.len(),
     );
-    if let Answer::Refused { number, place } = checked {
-        return Answer::Refused { number, place };
-    }
+    let Answer::Accepted = checked else {
+        return checked;
+    };
     fill_inputs(n, x, production, a);
     fill_shares(n, value_added, production, v);
     fill_import_shares(n, x, final_demand, imports, m);

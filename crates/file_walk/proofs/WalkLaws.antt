@@ -7,7 +7,7 @@ use native.Mathlib.Omega.{arith}
 use borrow.Author.Tests.{lt-leb, le-leb, eq-eqb, ne-eqb}
 use lib.ListN.{length}
 use Rattle.model.specs.Numbers.{cell}
-use Rattle.model.specs.Table.{sectorLimit}
+use Rattle.model.specs.Table.{fewSectors}
 use Rattle.model.specs.File.{Entry, kindAt, nextAt, wholeAt, insideAt, entryAt, namedBefore, Reading, walk, reading}
 use Rattle.file_walk.specs.Steps.{Begun, Naming}
 
@@ -81,14 +81,10 @@ module _ (s : List ℕ) where
       first-other k = rw (ne-eqb (length s) 0 some, w, ne-eqb (kindAt s 0) 1 k) refl
 
       module _ (k : kindAt s 0 ≡ 1) where
-        pub too-few : n < 1 → reading s ≡ Reading.refused 12 0
+        pub not-sized : fewSectors n ≡ false → reading s ≡ Reading.refused 12 0
         unfolding reading
-        too-few h = rw (ne-eqb (length s) 0 some, w, eq-eqb (kindAt s 0) 1 k, lt-leb 1 n h) refl
+        not-sized e = rw (ne-eqb (length s) 0 some, w, eq-eqb (kindAt s 0) 1 k, e) refl
 
-        pub too-many : sectorLimit < n → reading s ≡ Reading.refused 12 0
+        pub opens : fewSectors n ≡ true → reading s ≡ walk (length s) s n [] 2
         unfolding reading
-        too-many h = rw (ne-eqb (length s) 0 some, w, eq-eqb (kindAt s 0) 1 k, le-leb 1 n (omega arith), lt-leb n sectorLimit h) refl
-
-        pub opens : 1 ≤ n → n ≤ sectorLimit → reading s ≡ walk (length s) s n [] 2
-        unfolding reading
-        opens l h = rw (ne-eqb (length s) 0 some, w, eq-eqb (kindAt s 0) 1 k, le-leb 1 n l, le-leb n sectorLimit h) refl
+        opens e = rw (ne-eqb (length s) 0 some, w, eq-eqb (kindAt s 0) 1 k, e) refl

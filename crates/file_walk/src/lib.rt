@@ -1,5 +1,6 @@
 // The walk over the records of a table file, into one slice of 1,840 cells and one of 46 words of marks.
 use cells::fill_zero;
+use checks::is_sized;
 use file_records::amount_at;
 use file_records::is_inside;
 use file_records::is_marked;
@@ -175,13 +176,7 @@ fn open(file: &[u8]) -> TableRead
         };
     }
     let n = wide(file[1]);
-    if n < 1 {
-        return TableRead::Refused {
-            number: 12,
-            place: 0,
-        };
-    }
-    if SECTORS < n {
+    if !is_sized(n) {
         return TableRead::Refused {
             number: 12,
             place: 0,

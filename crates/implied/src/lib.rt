@@ -22,9 +22,9 @@ fn check_production(n: usize, d: &[u64], y: &[u64], out_len: usize) -> Answer
 {
     let lent = [y.len(), out_len];
     let matrix = check_domestic(n, d, &lent);
-    if let Answer::Refused { number, place } = matrix {
-        return Answer::Refused { number, place };
-    }
+    let Answer::Accepted = matrix else {
+        return matrix;
+    };
     total_within(n, y)
 }
 
@@ -33,9 +33,9 @@ fn check_implied(n: usize, d: &[u64], y: &[u64], out_len: usize) -> Answer
     ensures { λ r. ⌜ report r ≡ impliedReport n (now (d .entry)) (now (y .entry)) («out_len» ∷ []) ⌝ }
 {
     let given = check_production(n, d, y, out_len);
-    if let Answer::Refused { number, place } = given {
-        return Answer::Refused { number, place };
-    }
+    let Answer::Accepted = given else {
+        return given;
+    };
     demand_left(n, d, y)
 }
 

@@ -91,13 +91,13 @@ fn check_induced(
         imports_len,
     ];
     let sizes = check_sizes(n, &matrices, &lent);
-    if let Answer::Refused { number, place } = sizes {
-        return Answer::Refused { number, place };
-    }
+    let Answer::Accepted = sizes else {
+        return sizes;
+    };
     let amounts = check_shares(n, a, m, v, final_demand);
-    if let Answer::Refused { number, place } = amounts {
-        return Answer::Refused { number, place };
-    }
+    let Answer::Accepted = amounts else {
+        return amounts;
+    };
     total_within(n, y)
 }
 

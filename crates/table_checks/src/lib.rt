@@ -142,13 +142,13 @@ fn check_balances(
     ensures { λ r. ⌜ report r ≡ verdict (balanceChecks (tableOf n (now (x .entry)) (now («final_demand» .entry) ∷ now (exports .entry) ∷ now (imports .entry) ∷ now («value_added» .entry) ∷ now (production .entry) ∷ []))) [] ⌝ }
 {
     let columns = columns_balance(n, x, value_added, production);
-    if let Answer::Refused { number, place } = columns {
-        return Answer::Refused { number, place };
-    }
+    let Answer::Accepted = columns else {
+        return columns;
+    };
     let rows = rows_balance(n, x, final_demand, exports, imports, production);
-    if let Answer::Refused { number, place } = rows {
-        return Answer::Refused { number, place };
-    }
+    let Answer::Accepted = rows else {
+        return rows;
+    };
     imports_covered(n, x, final_demand, imports)
 }
 
@@ -176,9 +176,9 @@ pub fn check_contents(
         value_added,
         production,
     );
-    if let Answer::Refused { number, place } = amounts {
-        return Answer::Refused { number, place };
-    }
+    let Answer::Accepted = amounts else {
+        return amounts;
+    };
     check_balances(
         n,
         x,
@@ -209,9 +209,9 @@ pub fn check_table(
         report r ≡ verdict (size n ∷ lengths n (now (matrices .entry)) (now (lent .entry)) ∷ tableAmounts t ++ balanceChecks t) []) ⌝ }
 {
     let sizes = check_sizes(n, matrices, lent);
-    if let Answer::Refused { number, place } = sizes {
-        return Answer::Refused { number, place };
-    }
+    let Answer::Accepted = sizes else {
+        return sizes;
+    };
     check_contents(
         n,
         x,

@@ -128,6 +128,10 @@ module _ (ps : List Check) {a : Answer} (said : report a ≡ verdict ps []) wher
   pub answered-stop : (qs : List Check) (ks : List ℕ) {q p : ℕ} → a ≡ Refused q p → refuses (length ks) q p ≡ verdict (ps ++ qs) ks
   answered-stop qs ks e = sym (refuse-on ps qs ks _ _ (sym said ∙ ap report e))
 
+  -- a refusal that is handed on as it was answered
+  pub answered-end : (qs : List Check) {q p : ℕ} → a ≡ Refused q p → report a ≡ verdict (ps ++ qs) []
+  answered-end qs e = ap report e ∙ answered-stop qs [] e
+
 -- ---- checks 1 and 2: where they pass n is from 1 to 40 and the slices have their lengths, and the other way round
 pub record Sized (n : ℕ) (matrices lent : List ℕ) : Type 0 where
   pub some : 1 ≤ n

@@ -11,16 +11,16 @@ use Rattle.checks.proofs.all_equal.Statement.{statement}
 use Rattle.checks.proofs.all_equal.Tie as tie
 
 abbrev Inv-loop : tie.InvT-loop
-Inv-loop n lengths i₀ i-end i = (i ≤ length lengths) × (i-end ≡ length lengths) × All (λ k. eqb n (cell lengths k)) i
+Inv-loop n given i₀ i-end i = (i ≤ length given) × (i-end ≡ length given) × All (λ k. eqb n (cell given k)) i
 
 abbrev μ-loop : tie.MeasureT-loop
-μ-loop n lengths i₀ i-end i = length lengths - i
+μ-loop n given i₀ i-end i = length given - i
 
 returns : tie.Need-returns Inv-loop μ-loop
 returns c =
     let l = c .before .before .before .loop in
     let a = c .before .before .before .before .args in
-    sym (all-failed (eqb (a .n)) (a .lengths .now) (l .i) (omega arith) (ne-eqb _ _ (c .if1 .taken)))
+    sym (all-failed (eqb (a .n)) (a .given .now) (l .i) (omega arith) (ne-eqb _ _ (c .if1 .taken)))
 
 loop-again : tie.Need-loop-again Inv-loop μ-loop
 loop-again c =
@@ -31,7 +31,7 @@ returns-2 : tie.Need-returns-2 Inv-loop μ-loop
 returns-2 c =
     let l = c .before .loop in
     let a = c .before .before .args in
-    sym (all-passed (eqb (a .n)) (a .lengths .now) (λ k h. l .inv .2 k (omega arith)))
+    sym (all-passed (eqb (a .n)) (a .given .now) (λ k h. l .inv .2 k (omega arith)))
 
 pub all-equal-spec : {M : Type 1} → statement M
 all-equal-spec =

@@ -4,7 +4,7 @@ use mathlib.Core.Path.{_∙_}
 use borrow.Author.Needs.{needs}
 use Rattle.model.specs.Numbers.{at}
 use Rattle.model.specs.Checks.{Check, size, lengths, columnSums}
-use Rattle.theory.proofs.Verdicts.{answered-pass, answered-on, answered-stop, sized}
+use Rattle.theory.proofs.Verdicts.{answered-pass, answered-on, answered-end, sized}
 use Rattle.checks.proofs.check_matrix.Statement.{statement}
 use Rattle.checks.proofs.check_matrix.Tie as tie
 
@@ -20,8 +20,8 @@ last q = let a = entry q .args in columnSums (a .n) (at (a .n) (a .d .now)) ∷ 
 
 returns : tie.Need-returns
 returns c =
-    let q = c .before .before .before in
-    answered-stop (asked q) (q .check-sizes .ensures) (last q) [] (c .before .sizes .given .1)
+    let q = c .before .before in
+    answered-end (asked q) (q .check-sizes .ensures) (last q) (c .enum-told2 .given .1)
 
 columns-within-requires : tie.Need-columns-within-requires
 columns-within-requires c κs =
@@ -39,4 +39,4 @@ pub check-matrix-spec : {M : Type 1} → statement M
 check-matrix-spec =
     tie.close
     (tie.spec
-    (λ c κs. search needs) (λ c. search needs) returns (λ c. search needs) columns-within-requires returns-2)
+    (λ c κs. search needs) (λ c. search needs) (λ c. search needs) returns columns-within-requires returns-2)

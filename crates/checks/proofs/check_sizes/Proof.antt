@@ -9,25 +9,22 @@ use borrow.Author.Needs.{needs}
 use borrow.Author.Tests.{not-true, not-false, leb-true}
 use lib.Dec.{leb, eqb}
 use Rattle.model.specs.Numbers.{all}
-use Rattle.model.specs.Table.{sectorLimit}
+use Rattle.model.specs.Table.{sectorLimit, fewSectors}
 use Rattle.model.specs.Checks.{verdict, accepts, refuses, size, lengths}
 use Rattle.theory.proofs.Lists.{and-true}
 use Rattle.theory.proofs.Verdicts.{single-passed, single-failed}
 use Rattle.checks.proofs.check_sizes.Statement.{statement}
 use Rattle.checks.proofs.check_sizes.Tie as tie
 
--- the test of question 1, and of question 2
-abbrev sized : ℕ → Bool
-sized n = leb 1 n && leb n sectorLimit
-
+-- the test of question 2
 abbrev shaped : ℕ → List ℕ → List ℕ → Bool
 shaped n matrices lent = all (eqb (n * n)) matrices && all (eqb n) lent
 
 module _ (n : ℕ) (matrices lent : List ℕ) where
-  stops-1 : sized n ≡ false → refuses 0 1 0 ≡ verdict (size n ∷ lengths n matrices lent ∷ []) []
+  stops-1 : fewSectors n ≡ false → refuses 0 1 0 ≡ verdict (size n ∷ lengths n matrices lent ∷ []) []
   stops-1 e = sym (single-failed 1 (lengths n matrices lent ∷ []) [] e)
 
-  module _ (one : sized n ≡ true) where
+  module _ (one : fewSectors n ≡ true) where
     stops-2 : shaped n matrices lent ≡ false → refuses 0 2 0 ≡ verdict (size n ∷ lengths n matrices lent ∷ []) []
     stops-2 e = sym (single-passed 1 (lengths n matrices lent ∷ []) [] one ∙ single-failed 2 [] [] e)
 
@@ -38,7 +35,7 @@ module _ (n : ℕ) (matrices lent : List ℕ) where
 abbrev entry : tie.Else1 → tie.Start
 entry c = c .before .before .before .before
 
-passed-1 : (c : tie.Else1) → sized (entry c .args .n) ≡ true
+passed-1 : (c : tie.Else1) → fewSectors (entry c .args .n) ≡ true
 passed-1 c = sym (c .before .is-sized .ensures) ∙ not-false _ (c .if1 .left)
 
 few : (c : tie.Else1) → entry c .args .n ≤ sectorLimit

@@ -1,16 +1,17 @@
 -- `coefficients::fill_sheets` meets its contract: its checks, then each sheet from those before it. Assumes nothing.
 use mathlib.Core.Bool.{false≢true}
 use mathlib.Core.List.{List, [], _∷_}
-use mathlib.Core.Path.{_≡_, ap, subst⁻¹, _∙_}
+use mathlib.Core.Path.{_≡_, sym, ap, subst⁻¹, _∙_}
 use Prim.Native.Nat.{ℕ, _*_, _≤_, _<_}
 use borrow.Author.Needs.{needs}
 use lib.Dec.{lit<}
 use lib.ListN.{length}
 use Rattle.model.specs.Numbers.{one, at, cell}
 use Rattle.model.specs.Table.{Table, tableOf, inputCoefficient, valueAddedCoefficient, importCoefficient}
-use Rattle.model.specs.Checks.{Check, verdict, columnSums}
+use Rattle.model.specs.Checks.{Check, report, verdict, columnSums}
 use Rattle.model.specs.Calls.{tableChecks, inputCoefficients, valueAddedCoefficients, importCoefficients, domesticCoefficients, coefficientsReport}
-use Rattle.theory.proofs.Verdicts.{answered-pass, answered-on, answered-stop}
+use Rattle.model.specs.declared.Answer.{Answer}
+use Rattle.theory.proofs.Verdicts.{answered-pass, answered-on, answered-end}
 use Rattle.theory_tables.proofs.Tables.{Accepted, accepted-table, inputs-small, imports-small, domestic-from, demand-from}
 use Rattle.coefficients.proofs.fill_sheets.Statement.{statement}
 use Rattle.coefficients.proofs.fill_sheets.Tie as tie
@@ -63,8 +64,9 @@ imports-are i = i .fill-import-shares .ensures
 returns : tie.Need-returns
 unfolding coefficientsReport
 returns c =
-    let q = c .before .before .before in
-    (answered-stop (asked q) (q .check-called .ensures) (last q) [] (c .before .checked .given .1), λ ok. absurd (false≢true ok))
+    let q = c .before .before in
+    let e = c .enum-told2 .given .1 in
+    (answered-end (asked q) (q .check-called .ensures) (last q) e, λ ok. absurd (false≢true (sym (ap (λ (a : Answer). report a .accepted) e) ∙ ok)))
 
 fill-inputs-requires : tie.Need-fill-inputs-requires
 fill-inputs-requires c κs =
@@ -131,5 +133,5 @@ pub fill-sheets-spec : {M : Type 1} → statement M
 fill-sheets-spec =
     tie.close
     (tie.spec
-    (λ c κs. search needs) (λ c. search needs) returns (λ c. search needs) fill-inputs-requires fill-shares-requires fill-import-shares-requires
+    (λ c κs. search needs) (λ c. search needs) (λ c. search needs) returns fill-inputs-requires fill-shares-requires fill-import-shares-requires
     finish-requires (λ c. search needs) (λ c. search needs) (λ c. search needs) (λ c. search needs) (λ c. search needs) returns-2)

@@ -6,7 +6,7 @@ use lib.ListN.{length}
 use Rattle.model.specs.Numbers.{at}
 use Rattle.model.specs.Checks.{Check, productionTotal, demandLeft}
 use Rattle.model.specs.Calls.{matrixChecks, impliedReport}
-use Rattle.theory.proofs.Verdicts.{answered-pass, answered-on, answered-stop}
+use Rattle.theory.proofs.Verdicts.{answered-pass, answered-on, answered-end}
 use Rattle.theory_rounds.proofs.Answers.{given}
 use Rattle.theory_rounds.proofs.Promises.{implied-fits}
 use Rattle.implied.proofs.check_implied.Statement.{statement}
@@ -27,8 +27,8 @@ last q = let a = entry q .args in demandLeft (a .n) (at (a .n) (a .d .now)) (a .
 returns : tie.Need-returns
 unfolding impliedReport
 returns c =
-    let q = c .before .before .before in
-    answered-stop (asked q) (q .check-production .ensures) (last q) [] (c .before .given .given .1)
+    let q = c .before .before in
+    answered-end (asked q) (q .check-production .ensures) (last q) (c .enum-told2 .given .1)
 
 demand-left-requires : tie.Need-demand-left-requires
 demand-left-requires c κs =
@@ -47,5 +47,5 @@ pub check-implied-spec : {M : Type 1} → statement M
 check-implied-spec =
     tie.close
     (tie.spec
-    (λ c κs. search needs) (λ c. search needs) returns (λ c. search needs)
+    (λ c κs. search needs) (λ c. search needs) (λ c. search needs) returns
     demand-left-requires returns-2)

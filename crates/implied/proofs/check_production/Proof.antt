@@ -5,7 +5,7 @@ use borrow.Author.Needs.{needs}
 use lib.ListN.{length}
 use Rattle.model.specs.Checks.{Check, productionTotal}
 use Rattle.model.specs.Calls.{matrixChecks}
-use Rattle.theory.proofs.Verdicts.{answered-pass, answered-on, answered-stop, first-length}
+use Rattle.theory.proofs.Verdicts.{answered-pass, answered-on, answered-end, first-length}
 use Rattle.implied.proofs.check_production.Statement.{statement}
 use Rattle.implied.proofs.check_production.Tie as tie
 
@@ -21,8 +21,8 @@ last q = let a = entry q .args in productionTotal (a .n) (a .y .now) ∷ []
 
 returns : tie.Need-returns
 returns c =
-    let q = c .before .before .before in
-    answered-stop (asked q) (q .check-domestic .ensures) (last q) [] (c .before .matrix .given .1)
+    let q = c .before .before in
+    answered-end (asked q) (q .check-domestic .ensures) (last q) (c .enum-told2 .given .1)
 
 total-within-requires : tie.Need-total-within-requires
 total-within-requires c κs =
@@ -39,5 +39,5 @@ pub check-production-spec : {M : Type 1} → statement M
 check-production-spec =
     tie.close
     (tie.spec
-    (λ c. search needs) (λ c κs. search needs) (λ c. search needs) returns (λ c. search needs)
+    (λ c. search needs) (λ c κs. search needs) (λ c. search needs) (λ c. search needs) returns
     total-within-requires returns-2)

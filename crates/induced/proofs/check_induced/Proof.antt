@@ -5,7 +5,7 @@ use borrow.Author.Needs.{needs}
 use lib.ListN.{length}
 use Rattle.model.specs.Checks.{Check, report, verdict, size, lengths, inducedAmounts, productionTotal}
 use Rattle.model.specs.Calls.{inducedReport}
-use Rattle.theory.proofs.Verdicts.{answered-pass, answered-on, answered-stop}
+use Rattle.theory.proofs.Verdicts.{answered-pass, answered-on, answered-end}
 use Rattle.theory_rounds.proofs.Answers.{InducedSizes, induced-sizes}
 use Rattle.induced.proofs.check_induced.Statement.{statement}
 use Rattle.induced.proofs.check_induced.Tie as tie
@@ -46,8 +46,8 @@ said r =
 returns : tie.Need-returns
 unfolding inducedReport
 returns c =
-    let q = c .before .before .before in
-    answered-stop (sizes q) (q .check-sizes .ensures) (amounts q ++ last q) [] (c .before .sizes .given .1)
+    let q = c .before .before in
+    answered-end (sizes q) (q .check-sizes .ensures) (amounts q ++ last q) (c .enum-told2 .given .1)
 
 check-shares-requires : tie.Need-check-shares-requires
 check-shares-requires c κs =
@@ -57,21 +57,21 @@ check-shares-requires c κs =
 returns-2 : tie.Need-returns-2
 unfolding inducedReport
 returns-2 c =
-    let r = c .before .before .before in
+    let r = c .before .before in
     let q = r .before .before .before in
-    answered-stop (sizes q ++ amounts q) (said r) (last q) [] (c .before .amounts .given .1)
+    answered-end (sizes q ++ amounts q) (said r) (last q) (c .enum-told4 .given .1)
 
 returns-3 : tie.Need-returns-3
 unfolding inducedReport
 returns-3 c =
     let r = c .before .before .before in
     let q = r .before .before .before in
-    c .total-within .ensures ∙ answered-on (sizes q ++ amounts q) (said r) (last q) [] (c .before .enum-told2 .given .1)
+    c .total-within .ensures ∙ answered-on (sizes q ++ amounts q) (said r) (last q) [] (c .before .enum-told3 .given .1)
 
 pub check-induced-spec : {M : Type 1} → statement M
 check-induced-spec =
     tie.close
     (tie.spec
-    (λ c. search needs) (λ c. search needs) (λ c κs. search needs) (λ c. search needs) returns (λ c. search needs)
-    check-shares-requires (λ c. search needs) returns-2 (λ c. search needs)
+    (λ c. search needs) (λ c. search needs) (λ c κs. search needs) (λ c. search needs) (λ c. search needs) returns
+    check-shares-requires (λ c. search needs) (λ c. search needs) returns-2
     (λ c κs. lengths-are (c .before .before .before) .production) returns-3)

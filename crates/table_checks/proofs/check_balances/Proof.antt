@@ -5,7 +5,7 @@ use borrow.Author.Needs.{needs}
 use lib.Dec.{lit<}
 use Rattle.model.specs.Table.{Table, tableOf}
 use Rattle.model.specs.Checks.{Check, report, verdict, columnBalances, rowBalances, importsCovered}
-use Rattle.theory.proofs.Verdicts.{answered-on, answered-stop}
+use Rattle.theory.proofs.Verdicts.{answered-on, answered-end}
 use Rattle.table_checks.proofs.check_balances.Statement.{statement}
 use Rattle.table_checks.proofs.check_balances.Tie as tie
 
@@ -37,8 +37,8 @@ columns-balance-requires c κs =
 
 returns : tie.Need-returns
 returns c =
-    let q = c .before .before .before in
-    answered-stop (fourth q) (q .columns-balance .ensures) (rowBalances (table q) ∷ importsCovered (table q) ∷ []) [] (c .before .columns .given .1)
+    let q = c .before .before in
+    answered-end (fourth q) (q .columns-balance .ensures) (rowBalances (table q) ∷ importsCovered (table q) ∷ []) (c .enum-told2 .given .1)
 
 rows-balance-requires : tie.Need-rows-balance-requires
 rows-balance-requires c κs =
@@ -51,9 +51,9 @@ rows-balance-requires c κs =
 
 returns-2 : tie.Need-returns-2
 returns-2 c =
-    let r = c .before .before .before in
+    let r = c .before .before in
     let q = r .before .before .before in
-    answered-stop (fifth q) (said r) (importsCovered (table q) ∷ []) [] (c .before .rows .given .1)
+    answered-end (fifth q) (said r) (importsCovered (table q) ∷ []) (c .enum-told4 .given .1)
 
 imports-covered-requires : tie.Need-imports-covered-requires
 imports-covered-requires c κs =
@@ -66,11 +66,11 @@ returns-3 : tie.Need-returns-3
 returns-3 c =
     let r = c .before .before .before in
     let q = r .before .before .before in
-    c .imports-covered .ensures ∙ answered-on (fifth q) (said r) (importsCovered (table q) ∷ []) [] (c .before .enum-told2 .given .1)
+    c .imports-covered .ensures ∙ answered-on (fifth q) (said r) (importsCovered (table q) ∷ []) [] (c .before .enum-told3 .given .1)
 
 pub check-balances-spec : {M : Type 1} → statement M
 check-balances-spec =
     tie.close
     (tie.spec
-    columns-balance-requires (λ c. search needs) returns (λ c. search needs) rows-balance-requires (λ c. search needs)
-    returns-2 (λ c. search needs) imports-covered-requires returns-3)
+    columns-balance-requires (λ c. search needs) (λ c. search needs) returns rows-balance-requires (λ c. search needs)
+    (λ c. search needs) returns-2 imports-covered-requires returns-3)

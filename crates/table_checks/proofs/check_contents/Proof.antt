@@ -4,7 +4,7 @@ use mathlib.Core.Path.{_∙_}
 use borrow.Author.Needs.{needs}
 use Rattle.model.specs.Table.{Table, tableOf}
 use Rattle.model.specs.Checks.{tableAmounts, balanceChecks}
-use Rattle.theory.proofs.Verdicts.{answered-pass, answered-on, answered-stop}
+use Rattle.theory.proofs.Verdicts.{answered-pass, answered-on, answered-end}
 use Rattle.theory_tables.proofs.Tables.{table-amounts}
 use Rattle.table_checks.proofs.check_contents.Statement.{statement}
 use Rattle.table_checks.proofs.check_contents.Tie as tie
@@ -17,8 +17,8 @@ table q = let a = entry q .args in tableOf (a .n) (a .x .now) (a .final-demand .
 
 returns : tie.Need-returns
 returns c =
-    let q = c .before .before .before in
-    answered-stop (tableAmounts (table q)) (q .check-amounts .ensures) (balanceChecks (table q)) [] (c .before .amounts .given .1)
+    let q = c .before .before in
+    answered-end (tableAmounts (table q)) (q .check-amounts .ensures) (balanceChecks (table q)) (c .enum-told2 .given .1)
 
 check-balances-requires : tie.Need-check-balances-requires
 check-balances-requires c κs =
@@ -34,4 +34,4 @@ pub check-contents-spec : {M : Type 1} → statement M
 check-contents-spec =
     tie.close
     (tie.spec
-    (λ c κs. c .before .before .before .before .before .before .pre .flows) (λ c. search needs) returns (λ c. search needs) check-balances-requires returns-2)
+    (λ c κs. c .before .before .before .before .before .before .pre .flows) (λ c. search needs) (λ c. search needs) returns check-balances-requires returns-2)

@@ -4,7 +4,7 @@ use mathlib.Core.Path.{_∙_}
 use borrow.Author.Needs.{needs}
 use Rattle.model.specs.Table.{Table, tableOf}
 use Rattle.model.specs.Checks.{Check, size, lengths, tableAmounts, balanceChecks}
-use Rattle.theory.proofs.Verdicts.{answered-pass, answered-on, answered-stop, sized}
+use Rattle.theory.proofs.Verdicts.{answered-pass, answered-on, answered-end, sized}
 use Rattle.table_checks.proofs.check_table.Statement.{statement}
 use Rattle.table_checks.proofs.check_table.Tie as tie
 
@@ -23,8 +23,8 @@ last q = tableAmounts (table q) ++ balanceChecks (table q)
 
 returns : tie.Need-returns
 returns c =
-    let q = c .before .before .before in
-    answered-stop (asked q) (q .check-sizes .ensures) (last q) [] (c .before .sizes .given .1)
+    let q = c .before .before in
+    answered-end (asked q) (q .check-sizes .ensures) (last q) (c .enum-told2 .given .1)
 
 check-contents-requires : tie.Need-check-contents-requires
 check-contents-requires c κs =
@@ -44,4 +44,4 @@ pub check-table-spec : {M : Type 1} → statement M
 check-table-spec =
     tie.close
     (tie.spec
-    (λ c κs. search needs) (λ c. search needs) returns (λ c. search needs) check-contents-requires returns-2)
+    (λ c κs. search needs) (λ c. search needs) (λ c. search needs) returns check-contents-requires returns-2)
