@@ -31,7 +31,6 @@ fn one_column(n: usize, d: &[u64], budget: u32, j: usize, sheet: &mut [u64]) -> 
     let outcome = settle(
         n,
         d,
-        false,
         &demand[..n],
         budget,
         &mut amounts[..n],
