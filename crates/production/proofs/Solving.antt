@@ -4,48 +4,45 @@ use mathlib.Core.Path.{_≡_, sym, ap, _∙_}
 use Prim.Native.Nat.{ℕ}
 use lib.ListN.{length, replicate}
 use Rattle.model.specs.Rounds.{settling, settled}
-use Rattle.model.specs.Checks.{Report, Check, report, verdict, output, bounded, single, settles}
+use Rattle.model.specs.Checks.{Report, Check, output, bounded, single, settles}
 use Rattle.model.specs.Calls.{matrixChecks, settlingReport}
 use Rattle.model.specs.declared.Answer.{Answer}
 use Rattle.model.specs.declared.Answer.the-variants.{Accepted, Refused}
 use Rattle.theory.proofs.Verdicts.{answered-pass, answered-on, answered-stop}
 use Rattle.theory_rounds.specs.Search.{Settlement}
 use Rattle.theory_rounds.proofs.Answers.{Started, started}
-use Rattle.production.specs.Solving.{Cleared}
+use Rattle.production.specs.Solving.{Checked, Cleared}
 
-module _ (n : ℕ) (d : List ℕ) (c : ℕ → ℕ → ℕ) (limit : ℕ) (s : List ℕ) (budget : ℕ) (out₀ work₀ : List ℕ) where
-  pub record Solved (r : Report) (out work : List ℕ) : Type 0 where
-    pub answer : r ≡ settlingReport n d c limit s budget (length out₀ ∷ length work₀ ∷ [])
-    pub outputs : out ≡ output r (length out₀) (settled n c s budget)
-    pub cleared : work ≡ replicate (length work₀) 0
+pub record Solved (n : ℕ) (d : List ℕ) (c : ℕ → ℕ → ℕ) (limit : ℕ) (s : List ℕ) (budget outs works : ℕ) (r : Report) (out work : List ℕ) : Type 0 where
+  pub answer : r ≡ settlingReport n d c limit s budget (outs ∷ works ∷ [])
+  pub outputs : out ≡ output r outs (settled n c s budget)
+  pub cleared : work ≡ replicate works 0
 
-  -- questions 1, 2, 7 and 8, and question 9
+module _ {n : ℕ} {d : List ℕ} {limit : ℕ} {s : List ℕ} {outs works : ℕ} {a : Answer} (χ : Checked n d limit s outs works a) where
+  -- questions 1, 2, 7 and 8
   abbrev asked : List Check
-  asked = matrixChecks n d [] (length s ∷ length out₀ ∷ length work₀ ∷ []) ++ (bounded 8 0 limit s ∷ [])
+  asked = matrixChecks n d [] (length s ∷ outs ∷ works ∷ []) ++ (bounded 8 0 limit s ∷ [])
 
-  abbrev last : List Check
-  last = single 9 (settles n c s budget) ∷ []
+  -- where one of them fails
+  pub solved-stop : {c : ℕ → ℕ → ℕ} {budget number place : ℕ} {r : Report} {out work : List ℕ} → a ≡ Refused number place
+      → Cleared number place outs works r out work → Solved n d c limit s budget outs works r out work
+  solved-stop {c} {budget} e κ =
+      record {
+        answer = κ .answer ∙ answered-stop asked (χ .answer) (single 9 (settles n c s budget) ∷ []) (settling n c s budget ∷ []) e;
+        outputs = κ .outputs ∙ sym (ap (λ (r : Report). output r outs (settled n c s budget)) (κ .answer));
+        cleared = κ .cleared;
+      }
 
-  module _ {a : Answer} (said : report a ≡ verdict asked []) where
-    -- where a check fails
-    pub solved-stop : {number place : ℕ} {r : Report} {out work : List ℕ} → a ≡ Refused number place → Cleared number place out₀ work₀ r out work
-        → Solved r out work
-    solved-stop e κ =
-        record {
-          answer = κ .answer ∙ answered-stop asked said last (settling n c s budget ∷ []) e;
-          outputs = κ .outputs ∙ sym (ap (λ (r : Report). output r (length out₀) (settled n c s budget)) (κ .answer));
-          cleared = κ .cleared;
-        }
+  -- where none does: what is known of the slices, and what the rounds then leave
+  pub passed : a ≡ Accepted → Started n d limit s (outs ∷ works ∷ [])
+  passed e = started n d limit s (outs ∷ works ∷ []) (answered-pass asked (χ .answer) e)
 
-    -- where none does: what is known of the slices, and what the rounds then leave
-    pub passed : a ≡ Accepted → Started n d limit s (length out₀ ∷ length work₀ ∷ [])
-    passed e = started n d limit s (length out₀ ∷ length work₀ ∷ []) (answered-pass asked said e)
-
-    pub solved-on : {r : Report} {out work : List ℕ} → a ≡ Accepted → Settlement n c s budget r out work → Solved r out work
-    solved-on {r} e σ =
-        let l = passed e .slices in
-        record {
-          answer = σ .answer ∙ answered-on asked said last (settling n c s budget ∷ []) e;
-          outputs = σ .outputs ∙ ap (λ (k : ℕ). output r k (settled n c s budget)) (sym (l .0));
-          cleared = σ .cleared ∙ ap (λ (k : ℕ). replicate k 0) (sym (l .1 .0));
-        }
+  pub solved-on : {c : ℕ → ℕ → ℕ} {budget : ℕ} {r : Report} {out work : List ℕ} → a ≡ Accepted
+      → Settlement n c s budget r out work → Solved n d c limit s budget outs works r out work
+  solved-on {c} {budget} {r} e σ =
+      let l = passed e .slices in
+      record {
+        answer = σ .answer ∙ answered-on asked (χ .answer) (single 9 (settles n c s budget) ∷ []) (settling n c s budget ∷ []) e;
+        outputs = σ .outputs ∙ ap (λ (k : ℕ). output r k (settled n c s budget)) (sym (l .0));
+        cleared = σ .cleared ∙ ap (λ (k : ℕ). replicate k 0) (sym (l .1 .0));
+      }

@@ -9,17 +9,15 @@ use model::Outcome;
 use model::RISE_LIMIT;
 use model::SHEET;
 use settle_loop::settle;
-ghost use mathlib.Core.List.{[], _∷_, _++_};
 ghost use mathlib.Core.Path.{_≡_};
 ghost use Prim.Native.Nat.{ℕ, _<_, _≤_};
 ghost use lib.ListN.{length};
 ghost use Rattle.model.specs.Numbers.{at, cell, transposed};
-ghost use Rattle.model.specs.Checks.{report, reportRounds, verdict, bounded, demandLimit};
-ghost use Rattle.model.specs.Calls.{matrixChecks};
+ghost use Rattle.model.specs.Checks.{reportRounds, demandLimit};
 ghost use Rattle.model.specs.Promises.{AcceptedMatrix};
 ghost use Rattle.model.specs.Contracts.{Priced, Produced};
 ghost use Rattle.theory_rounds.specs.Search.{Settlement};
-ghost use Rattle.production.specs.Solving.{Cleared};
+ghost use Rattle.production.specs.Solving.{Checked, Cleared};
 
 // Questions 1, 2, 7 and 8 of a start and its limit.
 fn check_start(
@@ -30,7 +28,7 @@ fn check_start(
     out_len: usize,
     work_len: usize,
 ) -> Answer
-    ensures { λ r. ⌜ report r ≡ verdict (matrixChecks n (now (d .entry)) [] (length (now (start .entry)) ∷ «out_len» ∷ «work_len» ∷ []) ++ (bounded 8 0 limit (now (start .entry)) ∷ [])) [] ⌝ }
+    ensures { λ r. ⌜ Checked n (now (d .entry)) limit (now (start .entry)) «out_len» «work_len» r ⌝ }
 {
     let lent = [start.len(), out_len, work_len];
     let matrix = check_domestic(n, d, &lent);
@@ -42,7 +40,7 @@ fn check_start(
 
 // A refusal, with 0 in every output and work cell.
 fn refuse(number: u8, place: usize, out: &mut [u64], work: &mut [u64]) -> Outcome
-    ensures { λ r. ⌜ Cleared number place (now (out .entry)) (now (work .entry)) (reportRounds r) (now (out .exit)) (now (work .exit)) ⌝ }
+    ensures { λ r. ⌜ Cleared number place (length (now (out .entry))) (length (now (work .entry))) (reportRounds r) (now (out .exit)) (now (work .exit)) ⌝ }
 {
     fill_zero(out);
     fill_zero(work);

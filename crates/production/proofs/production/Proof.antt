@@ -2,6 +2,7 @@
 use mathlib.Core.List.{List}
 use Prim.Native.Nat.{ℕ}
 use borrow.Author.Needs.{needs}
+use lib.ListN.{length}
 use Rattle.model.specs.Numbers.{at}
 use Rattle.model.specs.Checks.{Report, demandLimit}
 use Rattle.model.specs.Calls.{productionReport}
@@ -15,12 +16,9 @@ use Rattle.production.proofs.production.Tie as tie
 abbrev entry : tie.After-check-start → tie.Start
 entry q = q .before .before .before .before .before
 
-abbrev coefficients : tie.After-check-start → ℕ → ℕ → ℕ
-coefficients q = let a = entry q .args in at (a .n) (a .d .now)
-
 -- what is answered and left keeps the promises
 kept : (q : tie.After-check-start) {r : Report} {out work : List ℕ} → let a = entry q .args in
-    Solved (a .n) (a .d .now) (coefficients q) demandLimit (a .f .now) (a .budget) (a .out .now) (a .work .now) r out work
+    Solved (a .n) (a .d .now) (at (a .n) (a .d .now)) demandLimit (a .f .now) (a .budget) (length (a .out .now)) (length (a .work .now)) r out work
     → Produced (a .n) (a .d .now) (a .f .now) (a .budget) (a .out .now) (a .work .now) r out work
 unfolding productionReport
 kept q e =
@@ -29,31 +27,23 @@ kept q e =
 
 settle-requires : tie.Need-settle-requires
 settle-requires c κs =
-    let p = c .before .before in
-    let q = p .before .before in
-    let a = entry q .args in
-    let s = passed (a .n) (a .d .now) (coefficients q) demandLimit (a .f .now) (a .budget) (a .out .now) (a .work .now) (q .check-start .ensures) (p .enum-told .given .1) in
-    (rows-settleable (s .matrix) (a .f .now) (s .start) (s .small), s .slices .0, s .slices .1 .0)
+    let q = c .before .before .before .before in
+    let s = passed (q .check-start .ensures) (c .before .before .enum-told .given .1) in
+    (rows-settleable (s .matrix) (entry q .args .f .now) (s .start) (s .small), s .slices .0, s .slices .1 .0)
 
 returns : tie.Need-returns
 returns c =
     let r = c .before .before .before .before in
     let k = r .before .before .before .before in
     let q = k .before .before in
-    let a = entry q .args in
-    kept q
-    (solved-stop (a .n) (a .d .now) (coefficients q) demandLimit (a .f .now) (a .budget) (a .out .now) (a .work .now) (q .check-start .ensures)
-    (k .checked .given .1) (r .refuse .ensures))
+    kept q (solved-stop (q .check-start .ensures) (k .checked .given .1) (r .refuse .ensures))
 
 returns-2 : tie.Need-returns-2
 returns-2 c =
     let r = c .before .before .before .before in
     let p = r .before .before .before in
     let q = p .before .before in
-    let a = entry q .args in
-    kept q
-    (solved-on (a .n) (a .d .now) (coefficients q) demandLimit (a .f .now) (a .budget) (a .out .now) (a .work .now) (q .check-start .ensures)
-    (p .enum-told .given .1) (r .settle .ensures))
+    kept q (solved-on (q .check-start .ensures) (p .enum-told .given .1) (r .settle .ensures))
 
 pub production-spec : {M : Type 1} → statement M
 production-spec =
