@@ -1,4 +1,4 @@
-// Leaves over lent slices. `transposed` gives the direction of a matrix: along its rows, or down its columns.
+// Leaves over lent slices.
 use model::Answer;
 use model::ONE;
 ghost use mathlib.Core.Path.{_≡_};
@@ -60,12 +60,12 @@ pub fn portion_of(m: u64, amount: u64) -> u64
     m * amount / ONE
 }
 
-// The coefficient in row i and column j; of the transposed matrix the one in row j and column i.
-pub fn cell_at(n: usize, d: &[u64], transposed: bool, i: usize, j: usize) -> u64
+// The cell in row i and column j; with rows and columns exchanged the one in row j and column i.
+pub fn cell_at(n: usize, d: &[u64], exchanged: bool, i: usize, j: usize) -> u64
     requires { ⌜ (length (now d) ≡ n * n) × (i < n) × (j < n) ⌝ }
-    ensures { λ r. ⌜ r ≡ oriented transposed (at n (now (d .entry))) i j ⌝ }
+    ensures { λ r. ⌜ r ≡ oriented exchanged (at n (now (d .entry))) i j ⌝ }
 {
-    if transposed {
+    if exchanged {
         return d[j * n + i];
     }
     d[i * n + j]

@@ -20,6 +20,7 @@ use Rattle.model.specs.Promises.{AcceptedMatrix}
 use Rattle.model.specs.declared.Outcome.{Outcome}
 use Rattle.model.specs.declared.Outcome.the-variants.{Settled, Refused}
 use Rattle.theory.specs.Slices.{Each}
+use Rattle.inverse_columns.specs.Filling.{ColumnFilled}
 use Rattle.theory.proofs.Lists.{All, all-none, all-more, length-tabulate, cell-tabulate, tabulated}
 use Rattle.theory.proofs.Matrices.{matrix-cell, matrix-made}
 use Rattle.theory.proofs.Verdicts.{passed, failed-each, accepted-all, all-pass-parts, accepted-matrix}
@@ -90,31 +91,25 @@ module _ (n : ℕ) (d : List ℕ) (budget : ℕ) where
   filled-none sheet e =
       record { cells = e; counts = refl; settle = all-none (columnsSettle n d budget .passes); columns = below-none _ }
 
-  -- what is answered for column j
-  abbrev pub Said : ℕ → Outcome → Type 0
-  Said j r = reportRounds r ≡ verdict (single 9 (settles n (at n d) (unit n j) budget) ∷ []) (count j ∷ [])
-
-  module _ {j : ℕ} {sheet : List ℕ} {most : ℕ} (F : Filled j sheet most) {r : Outcome} (said : Said j r) where
+  module _ {j : ℕ} {sheet : List ℕ} {most : ℕ} (F : Filled j sheet most) {r : Outcome} {after : List ℕ} (C : ColumnFilled n d budget j sheet (reportRounds r) after) where
     -- one column more
-    pub filled-more : {after : List ℕ} {k m : ℕ} → r ≡ Settled k → m ≡ max most k → length after ≡ length sheet
-        → ((i : ℕ) → i < n → at n after i j ≡ cell (output (reportRounds r) n (column j)) i)
-        → ((i k : ℕ) → k < j → at n after i k ≡ at n sheet i k) → Filled (j + 1) after m
-    filled-more {after} {k} e g l put kept =
-        let p = one-passed 9 (count j) k (settles n (at n d) (unit n j) budget) (sym (ap reportRounds e) ∙ said) in
+    pub filled-more : {k m : ℕ} → r ≡ Settled k → m ≡ max most k → length after ≡ length sheet → Filled (j + 1) after m
+    filled-more {k} e g l =
+        let p = one-passed 9 (count j) k (settles n (at n d) (unit n j) budget) (sym (ap reportRounds e) ∙ C .answer) in
         record {
           cells = l ∙ F .cells;
           counts = g ∙ rw (add-one, F .counts, p .1);
           settle = all-more (columnsSettle n d budget .passes) j (F .settle) (p .0);
           columns = below-more (λ k. (i : ℕ) → i < n → at n after i k ≡ cell (column k) i) j
-              (λ k h i m. kept i k h ∙ F .columns k h i m)
-              (λ i m. put i m ∙ ap (λ (o : Outcome). cell (output (reportRounds o) n (column j)) i) e);
+              (λ k h i m. C .kept i k h ∙ F .columns k h i m)
+              (λ i m. C .column i m ∙ ap (λ (o : Outcome). cell (output (reportRounds o) n (column j)) i) e);
         }
 
     -- the first that does not settle
     pub filled-stop : {q p : ℕ} → j < n → r ≡ Refused q p → refuses 1 9 j ≡ verdict (columnsSettle n d budget ∷ []) (inverseRounds n d budget ∷ [])
     filled-stop {q} {p} h e =
         sym (failed-each 9 n (columnsSettle n d budget .passes) [] (inverseRounds n d budget ∷ []) j h (F .settle)
-        (one-failed 9 (count j) q p (settles n (at n d) (unit n j) budget) (sym (ap reportRounds e) ∙ said)))
+        (one-failed 9 (count j) q p (settles n (at n d) (unit n j) budget) (sym (ap reportRounds e) ∙ C .answer)))
 
   -- all of them
   pub filled-all : {j : ℕ} {sheet : List ℕ} {most : ℕ} → Filled j sheet most → 1 ≤ n → j ≤ n → n ≤ j

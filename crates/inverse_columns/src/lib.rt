@@ -9,20 +9,18 @@ use model::SECTORS;
 use settle_loop::settle;
 ghost use mathlib.Core.List.{[], _∷_};
 ghost use mathlib.Core.Path.{_≡_};
-ghost use Prim.Native.Nat.{ℕ, _*_, _<_, max};
+ghost use Prim.Native.Nat.{_*_, _<_, max};
 ghost use lib.ListN.{length};
-ghost use Rattle.model.specs.Numbers.{at, cell};
-ghost use Rattle.model.specs.Rounds.{inverse, inverseRounds, settled, settling, unit};
-ghost use Rattle.model.specs.Checks.{report, reportRounds, verdict, output, single, settles, columnsSettle};
+ghost use Rattle.model.specs.Rounds.{inverse, inverseRounds};
+ghost use Rattle.model.specs.Checks.{report, reportRounds, verdict, output, columnsSettle};
 ghost use Rattle.model.specs.Calls.{inverseReport, matrixChecks};
 ghost use Rattle.model.specs.Promises.{AcceptedMatrix};
+ghost use Rattle.inverse_columns.specs.Filling.{ColumnFilled};
 
 // Column j of the Leontief inverse: the production settled from one in sector j, or 0 in every cell.
 fn one_column(n: usize, d: &[u64], budget: u32, j: usize, sheet: &mut [u64]) -> Outcome
     requires { ⌜ AcceptedMatrix n (now d) × (length (now sheet) ≡ n * n) × (j < n) ⌝ }
-    ensures { λ r. ⌜ reportRounds r ≡ verdict (single 9 (settles n (at n (now (d .entry))) (unit n j) budget) ∷ []) (settling n (at n (now (d .entry))) (unit n j) budget ∷ []) ⌝ }
-    ensures { λ r. ⌜ ((i : ℕ) → i < n → at n (now (sheet .exit)) i j ≡ cell (output (reportRounds r) n (settled n (at n (now (d .entry))) (unit n j) budget)) i) ⌝ }
-    ensures { λ _. ⌜ ((i k : ℕ) → k < j → at n (now (sheet .exit)) i k ≡ at n (now (sheet .entry)) i k) ⌝ }
+    ensures { λ r. ⌜ ColumnFilled n (now (d .entry)) budget j (now (sheet .entry)) (reportRounds r) (now (sheet .exit)) ⌝ }
 {
     let mut demand = [0u64; SECTORS];
     let mut amounts = [0u64; SECTORS];
@@ -31,7 +29,6 @@ fn one_column(n: usize, d: &[u64], budget: u32, j: usize, sheet: &mut [u64]) -> 
     let outcome = settle(
         n,
         d,
-        false,
         &demand[..n],
         budget,
         &mut amounts[..n],

@@ -1,6 +1,6 @@
 // One round of a settling loop, over lent slices.
-use model::ONE;
 use settle_sums::add_rises;
+use settle_sums::taken_of;
 ghost use mathlib.Core.Bool.{true};
 ghost use mathlib.Core.Path.{_≡_};
 ghost use Prim.Native.Nat.{ℕ, _+_, _*_, _-_, _<_, _≤_};
@@ -8,15 +8,17 @@ ghost use lib.Dec.{eqb};
 ghost use lib.ListN.{length};
 ghost use Rattle.model.specs.Numbers.{at, cell, same, tabulate};
 ghost use Rattle.model.specs.Rounds.{round, weighted};
-ghost use Rattle.model.specs.Checks.{demandLimit};
+ghost use Rattle.model.specs.Checks.{demandLimit, productionLimit};
 ghost use Rattle.theory_rounds.specs.Bounds.{sumLimit, Narrow};
-ghost use Rattle.theory_rounds.specs.Rises.{advanced, Carried};
+ghost use Rattle.settle_sums.specs.Sums.{Carried, HasSum, taken};
+ghost use Rattle.settle_round.specs.Advance.{advanced};
 
 // Every sector's start and what industry takes of it, into `out`, and by how much it rose. Answers how far sectors moved: 0 where none did, else
 // a number that is nowhere below a rise.
 fn advance(n: usize, start: &[u64], sums: &[u64], out: &mut [u64], rises: &mut [u64]) -> u64
-    requires { ⌜ (length (now start) ≡ n) × (length (now sums) ≡ n) × (length (now out) ≡ n) × (length (now rises) ≡ n) ⌝ }
-    requires { ⌜ ((i : ℕ) → i < n → (cell (now start) i ≤ demandLimit) × (cell (now sums) i ≤ sumLimit) × (cell (now out) i ≤ advanced (now start) (now sums) i)) ⌝ }
+    requires { ⌜ (length (now start) ≡ n) × (length (now out) ≡ n) × (length (now rises) ≡ n) ⌝ }
+    requires { ⌜ ((i : ℕ) → i < n → HasSum (now sums) i × (taken (now sums) i ≤ productionLimit)) ⌝ }
+    requires { ⌜ ((i : ℕ) → i < n → (cell (now start) i ≤ demandLimit) × (cell (now out) i ≤ advanced (now start) (now sums) i)) ⌝ }
     ensures { λ r. ⌜ eqb r 0 ≡ same n (tabulate n (advanced (now (start .entry)) (now (sums .entry)))) (now (out .entry)) ⌝ }
     ensures { λ r. ⌜ ((i : ℕ) → i < n → cell (now (rises .exit)) i ≤ r) ⌝ }
     ensures { λ _. ⌜ now (out .exit) ≡ tabulate n (advanced (now (start .entry)) (now (sums .entry))) ⌝ }
@@ -24,7 +26,7 @@ fn advance(n: usize, start: &[u64], sums: &[u64], out: &mut [u64], rises: &mut [
 {
     let mut moved: u64 = 0;
     for i in 0..n {
-        let amount = start[i] + sums[i] / ONE;
+        let amount = start[i] + taken_of(sums, i);
         let rise = amount - out[i];
         moved |= rise;
         rises[i] = rise;
@@ -46,7 +48,7 @@ pub fn turn(
     rises: &mut [u64],
     sums: &mut [u64],
 ) -> u64
-    requires { ⌜ (length (now d) ≡ n * n) × (length (now start) ≡ n) × (length (now out) ≡ n) × (length (now rises) ≡ n) × (length (now sums) ≡ n) ⌝ }
+    requires { ⌜ (length (now d) ≡ n * n) × (length (now start) ≡ n) × (length (now out) ≡ n) × (length (now rises) ≡ n) ⌝ }
     requires { ⌜ Narrow (now d) × (narrow ≡ true → Narrow (now rises)) × Carried n (now d) (now rises) (now sums) (now out) ⌝ }
     requires { ⌜ ((i : ℕ) → i < n → cell (now start) i ≤ demandLimit) ⌝ }
     requires { ⌜ ((i : ℕ) → i < n → weighted n (at n (now d)) (cell (now out)) i ≤ sumLimit) ⌝ }

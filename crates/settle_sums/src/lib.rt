@@ -1,15 +1,22 @@
-// The weighted sums along the rows of a matrix, which a settling loop carries from round to round.
+// The weighted sums along the rows of a matrix, which a settling loop carries from round to round: how they are kept, how rises are added to
+// them, and what industry takes by them. No other crate knows their form.
 use cells::weighted_sum;
+use model::ONE;
+use model::SECTORS;
 ghost use mathlib.Core.Bool.{true};
+ghost use mathlib.Core.List.{List};
 ghost use mathlib.Core.Path.{_≡_};
 ghost use Prim.Native.Nat.{ℕ, _+_, _*_, _-_, _<_, _≤_};
 ghost use lib.ListN.{length};
-ghost use Rattle.model.specs.Numbers.{at, cell, tabulate};
+ghost use Rattle.model.specs.Numbers.{at, cell};
 ghost use Rattle.theory_rounds.specs.Bounds.{sumLimit, Narrow, narrowLimit};
-ghost use Rattle.theory_rounds.specs.Rises.{raised, Written};
+ghost use Rattle.settle_sums.specs.Sums.{Carried, Fits, HasSum, SumsOf, Written, raised, taken};
 
 // Cells below this are narrow (`narrowLimit`): their product is one multiplication of 32 bits.
 pub const NARROW: u64 = 1 << 32;
+
+// As many cells hold the sums of any number of sectors (`sumCells`). At first they are 0.
+pub const SUMS: usize = SECTORS;
 
 // The same rise; where rises are narrow the compiler is told so.
 fn narrowed(narrow: bool, rise: u64) -> u64
@@ -25,7 +32,7 @@ fn narrowed(narrow: bool, rise: u64) -> u64
 // Adds what a rise of sector j adds to the sums of rows i to i + 3. Narrow coefficients take one multiplication of 32 bits where the rise is
 // narrow too, and two where it is not.
 fn add_products(n: usize, d: &[u64], j: usize, rise: u64, i: usize, sums: &mut [u64])
-    requires { ⌜ (length (now d) ≡ n * n) × (length (now sums) ≡ n) × (j < n) × (i + 3 < n) × Narrow (now d) ⌝ }
+    requires { ⌜ (length (now d) ≡ n * n) × (n ≤ length (now sums)) × (j < n) × (i + 3 < n) × Narrow (now d) ⌝ }
     requires { ⌜ ((c : ℕ) → i ≤ c → c < i + 4 → cell (now sums) c + at n (now d) c j * rise ≤ sumLimit) ⌝ }
     ensures { λ _. ⌜ Written (now (sums .exit)) i 4 (λ c. cell (now (sums .entry)) c + at n (now (d .entry)) c j * rise) (now (sums .entry)) ⌝ }
 {
@@ -36,7 +43,7 @@ fn add_products(n: usize, d: &[u64], j: usize, rise: u64, i: usize, sums: &mut [
 
 // Adds what all rises add to the sums of rows i to i + 3, in one pass over the rises.
 fn add_block(n: usize, d: &[u64], narrow: bool, rises: &[u64], i: usize, sums: &mut [u64])
-    requires { ⌜ (length (now d) ≡ n * n) × (length (now rises) ≡ n) × (length (now sums) ≡ n) × (i + 3 < n) ⌝ }
+    requires { ⌜ (length (now d) ≡ n * n) × (length (now rises) ≡ n) × (n ≤ length (now sums)) × (i + 3 < n) ⌝ }
     requires { ⌜ Narrow (now d) × (narrow ≡ true → Narrow (now rises)) ⌝ }
     requires { ⌜ ((c : ℕ) → i ≤ c → c < n → raised n (now d) (now rises) (now sums) c ≤ sumLimit) ⌝ }
     ensures { λ _. ⌜ Written (now (sums .exit)) i 4 (raised n (now (d .entry)) (now (rises .entry)) (now (sums .entry))) (now (sums .entry)) ⌝ }
@@ -49,7 +56,7 @@ fn add_block(n: usize, d: &[u64], narrow: bool, rises: &[u64], i: usize, sums: &
 
 // Adds what all rises add to the sums from row i on, row by row.
 fn add_rest(n: usize, d: &[u64], rises: &[u64], i: usize, sums: &mut [u64])
-    requires { ⌜ (length (now d) ≡ n * n) × (length (now rises) ≡ n) × (length (now sums) ≡ n) × (i ≤ n) ⌝ }
+    requires { ⌜ (length (now d) ≡ n * n) × (length (now rises) ≡ n) × (n ≤ length (now sums)) × (i ≤ n) ⌝ }
     requires { ⌜ ((c : ℕ) → i ≤ c → c < n → raised n (now d) (now rises) (now sums) c ≤ sumLimit) ⌝ }
     ensures { λ _. ⌜ Written (now (sums .exit)) i (n - i) (raised n (now (d .entry)) (now (rises .entry)) (now (sums .entry))) (now (sums .entry)) ⌝ }
 {
@@ -58,12 +65,12 @@ fn add_rest(n: usize, d: &[u64], rises: &[u64], i: usize, sums: &mut [u64])
     }
 }
 
-// Adds what all rises add to the sums of every row, four rows at a time while there are four.
+// Adds what all rises add to the sums of every row, four rows at a time while there are four. Then the sums are those of the amounts.
 pub fn add_rises(n: usize, d: &[u64], narrow: bool, rises: &[u64], sums: &mut [u64])
-    requires { ⌜ (length (now d) ≡ n * n) × (length (now rises) ≡ n) × (length (now sums) ≡ n) ⌝ }
+    requires { ⌜ (length (now d) ≡ n * n) × (length (now rises) ≡ n) ⌝ }
     requires { ⌜ Narrow (now d) × (narrow ≡ true → Narrow (now rises)) ⌝ }
-    requires { ⌜ ((c : ℕ) → c < n → raised n (now d) (now rises) (now sums) c ≤ sumLimit) ⌝ }
-    ensures { λ _. ⌜ now (sums .exit) ≡ tabulate n (raised n (now (d .entry)) (now (rises .entry)) (now (sums .entry))) ⌝ }
+    requires { ⌜ Fits n (now d) (now rises) (now sums) ⌝ }
+    ensures { λ _. ⌜ ((y : List ℕ) → Carried n (now (d .entry)) (now (rises .entry)) (now (sums .entry)) y → SumsOf n (now (d .entry)) (now (sums .exit)) y) ⌝ }
 {
     let mut i: usize = 0;
     while i + 3 < n {
@@ -71,4 +78,12 @@ pub fn add_rises(n: usize, d: &[u64], narrow: bool, rises: &[u64], sums: &mut [u
         i += 4;
     }
     add_rest(n, d, rises, i, sums);
+}
+
+// What industry takes of sector i by its sum, which is divided once by one and rounded down.
+pub fn taken_of(sums: &[u64], i: usize) -> u64
+    requires { ⌜ HasSum (now sums) i ⌝ }
+    ensures { λ r. ⌜ r ≡ taken (now (sums .entry)) i ⌝ }
+{
+    sums[i] / ONE
 }

@@ -1,21 +1,22 @@
--- Coefficients that are alike below n have the same rounds, so a matrix and its transposed copy serve alike. Narrow matrices. Assumes
--- nothing.
+-- Coefficients that are alike below n have the same rounds, so the rows of a transposed copy serve for the columns of a matrix. Both
+-- are fit for settling. Assumes nothing.
 use mathlib.Core.Path.{_≡_, refl, sym, ap, ap₂, _∙_, fun-ext, subst⁻¹}
-use mathlib.Core.Bool.{not}
+use mathlib.Core.Bool.{true, false, not}
 use mathlib.Core.List.{List, [], _∷_}
 use Prim.Native.Nat.{ℕ, zero, suc, _+_, _*_, _/_, _%_, _≤_, _<_}
 use native.Mathlib.Omega.{arith}
 use lib.Dec.{leb}
 use lib.ListN.{length}
 use Rattle.model.specs.Numbers.{one, first, cell, same, at, transposed}
-use Rattle.model.specs.Rounds.{weighted, intermediate, round, rounds, changes, settling, Settles}
-use Rattle.model.specs.Checks.{Report, verdict, single, settles}
+use Rattle.model.specs.Rounds.{weighted, intermediate, round, rounds, changes, settling, settled}
+use Rattle.model.specs.Checks.{Report, verdict, output, single, demandLimit}
 use Rattle.model.specs.Promises.{AcceptedMatrix}
 use Rattle.theory_rounds.specs.Bounds.{RoundsFit, Narrow, sumLimit}
-use Rattle.theory_rounds.specs.Search.{Searched}
+use Rattle.theory_rounds.specs.Search.{Settleable, Settlement}
 use Rattle.theory.proofs.Sums.{sum-cong, sum-cell, cell-in}
 use Rattle.theory.proofs.Lists.{tabulate-cong}
 use Rattle.theory.proofs.Matrices.{place-row, place-column, place-cell}
+use Rattle.theory_rounds.proofs.Promises.{rounds-fit}
 
 abbrev pub Alike : ℕ → (ℕ → ℕ → ℕ) → (ℕ → ℕ → ℕ) → Type 0
 Alike n c e = (i j : ℕ) → i < n → j < n → c i j ≡ e i j
@@ -43,39 +44,52 @@ module _ (n : ℕ) (c e : ℕ → ℕ → ℕ) (alike : Alike n c e) where
     unfolding settling
     settling-alike budget = ap (first (suc budget)) (fun-ext changes-alike)
 
-    -- question 9, and what settles
-    nine-alike : (budget : ℕ)
-        → verdict (single 9 (settles n c s budget) ∷ []) (settling n c s budget ∷ []) ≡ verdict (single 9 (settles n e s budget) ∷ []) (settling n e s budget ∷ [])
-    nine-alike budget = ap (λ (k : ℕ). verdict (single 9 (leb k budget) ∷ []) (k ∷ [])) (settling-alike budget)
+    settled-alike : (budget : ℕ) → settled n c s budget ≡ settled n e s budget
+    unfolding settled
+    settled-alike budget = ap (rounds n c s) (settling-alike budget) ∙ rounds-alike (settling n e s budget)
 
-    settles-alike : {k : ℕ} {y : List ℕ} → Settles n c s k y → Settles n e s k y
-    settles-alike {k} σ =
+    -- so what rounds along the one settle at is what they settle at along the other
+    pub settlement-alike : {budget : ℕ} {r : Report} {out work : List ℕ} → Settlement n c s budget r out work → Settlement n e s budget r out work
+    settlement-alike {budget} {r} σ =
         record {
-          unchanged = sym (changes-alike k) ∙ σ .unchanged;
-          earlier = λ j h. sym (changes-alike j) ∙ σ .earlier j h;
-          amounts = σ .amounts ∙ rounds-alike k;
+          answer = σ .answer ∙ ap (λ (k : ℕ). verdict (single 9 (leb k budget) ∷ []) (k ∷ [])) (settling-alike budget);
+          outputs = σ .outputs ∙ ap (output r n) (settled-alike budget);
+          cleared = σ .cleared;
         }
 
-    pub searched-alike : (budget : ℕ) (r : Report) (y : List ℕ) → Searched n c s budget r y → Searched n e s budget r y
-    searched-alike budget r y p = (p .0 ∙ nine-alike budget, λ h. let q = p .1 h in (settles-alike (q .0), q .1))
-
-    pub fits-alike : RoundsFit n e s → RoundsFit n c s
+    fits-alike : RoundsFit n e s → RoundsFit n c s
     fits-alike p k i h =
         subst⁻¹ (λ (w : ℕ). w ≤ sumLimit) (ap (λ (y : List ℕ). weighted n c (cell y) i) (rounds-alike k) ∙ weighted-alike (cell (rounds n e s k)) i h) (p k i h)
 
 module _ {n : ℕ} {d : List ℕ} (A : AcceptedMatrix n d) where
   -- no cell is over its column's sum
-  pub matrix-narrow : Narrow d
+  matrix-narrow : Narrow d
   matrix-narrow k h =
       let l = subst⁻¹ (λ (m : ℕ). k < m) (sym (A .cells)) h in
       let j = place-column n k (A .some) in
       omega (arith, place-cell n d k, sum-cell n (transposed (at n d) (k % n)) (k / n) (place-row n k (A .some) l), A .low (k % n) j)
 
   -- nor is one of a copy with rows and columns exchanged
-  pub transposed-narrow : (t : List ℕ) → length t ≡ n * n → Alike n (at n t) (transposed (at n d)) → Narrow t
+  transposed-narrow : (t : List ℕ) → length t ≡ n * n → Alike n (at n t) (transposed (at n d)) → Narrow t
   transposed-narrow t e alike k h =
       let l = subst⁻¹ (λ (m : ℕ). k < m) (sym e) h in
       let i = place-row n k (A .some) l in
       let j = place-column n k (A .some) in
       let inside = subst⁻¹ (λ (m : ℕ). k % n * n + k / n < m) (A .cells) (cell-in n (k % n) (k / n) j i) in
       omega (arith, place-cell n t k, alike (k / n) (k % n) i j, matrix-narrow (k % n * n + k / n) inside)
+
+  module _ (s : List ℕ) (e : length s ≡ n) (small : (i : ℕ) → i < n → cell s i ≤ demandLimit) where
+    pub rows-settleable : Settleable n d s
+    rows-settleable =
+        record { few = A .few; cells = A .cells; narrow = matrix-narrow; sectors = e; small = small; fits = rounds-fit A s small false }
+
+    pub columns-settleable : (t : List ℕ) → length t ≡ n * n → Alike n (at n t) (transposed (at n d)) → Settleable n t s
+    columns-settleable t f alike =
+        record {
+          few = A .few;
+          cells = f;
+          narrow = transposed-narrow t f alike;
+          sectors = e;
+          small = small;
+          fits = fits-alike n (at n t) (transposed (at n d)) alike s (rounds-fit A s small true);
+        }

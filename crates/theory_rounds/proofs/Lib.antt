@@ -2,7 +2,6 @@
 -- these what the papers promise of the calls (Promises).
 pub mod Gauge
 pub mod Rounds
-pub mod Rises
 pub mod Settling
 pub mod Accuracy
 pub mod Alike

@@ -1,4 +1,3 @@
 -- What contracts of the settling functions cite beside the definitions of `model`.
 pub mod Bounds
-pub mod Rises
 pub mod Search

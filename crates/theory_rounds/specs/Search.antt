@@ -1,14 +1,36 @@
--- What a settling loop answers and leaves. It says no more than the definitions of the papers that it names.
+-- What a settling loop needs, and what it answers and leaves. It says no more than the definitions of the papers that it names.
 use mathlib.Core.Bool.{true}
-use mathlib.Core.List.{List, [], _∷_}
+use mathlib.Core.List.{[], _∷_}
 use mathlib.Core.Path.{_≡_}
-use Prim.Native.Nat.{ℕ, _≤_}
-use Rattle.model.specs.Rounds.{settling, Settles}
-use Rattle.model.specs.Checks.{Report, roundsOf, verdict, single, settles}
+use Prim.Native.Nat.{ℕ, _*_, _≤_, _<_}
+use lib.ListN.{length, replicate}
+use Rattle.model.specs.Numbers.{Cells, Sheet, cell, at}
+use Rattle.model.specs.Table.{sectorLimit}
+use Rattle.model.specs.Rounds.{settling, settled, Settles}
+use Rattle.model.specs.Checks.{Report, roundsOf, verdict, output, single, settles, demandLimit}
+use Rattle.theory_rounds.specs.Bounds.{RoundsFit, Narrow}
 
--- the answer r is the count of rounds, or number 9; where it is a count, that is the least settling index, within the budget, and y has the
--- amounts after it
-abbrev pub Searched : ℕ → (ℕ → ℕ → ℕ) → List ℕ → ℕ → Report → List ℕ → Type 0
-Searched n c s budget r y =
-    (r ≡ verdict (single 9 (settles n c s budget) ∷ []) (settling n c s budget ∷ []))
-    × (r .accepted ≡ true → Settles n c s (roundsOf r) y × (roundsOf r ≤ budget))
+-- rounds from the start s along the rows of the matrix d stay within 64 bits
+pub record Settleable (n : ℕ) (d s : Cells) : Type 0 where
+  pub few : n ≤ sectorLimit
+  pub cells : length d ≡ n * n
+  pub narrow : Narrow d
+  pub sectors : length s ≡ n
+  pub small : (i : ℕ) → i < n → cell s i ≤ demandLimit
+  pub fits : RoundsFit n (at n d) s
+
+module _ (n : ℕ) (c : Sheet) (s : Cells) (budget : ℕ) where
+  -- question 9 alone, with the count of rounds
+  abbrev pub nine : Report
+  nine = verdict (single 9 (settles n c s budget) ∷ []) (settling n c s budget ∷ [])
+
+  -- the answer r is the count of rounds, or number 9; where it is a count, that is the least settling index, within the budget, and y has the
+  -- amounts after it
+  abbrev pub Searched : (r : Report) (y : Cells) → Type 0
+  Searched r y = (r ≡ nine) × (r .accepted ≡ true → Settles n c s (roundsOf r) y × (roundsOf r ≤ budget))
+
+  -- and the outputs are the settled amounts, or 0 in every cell; the work cells are cleared
+  pub record Settlement (r : Report) (out work : Cells) : Type 0 where
+    pub answer : r ≡ nine
+    pub outputs : out ≡ output r n (settled n c s budget)
+    pub cleared : work ≡ replicate n 0

@@ -43,7 +43,7 @@ returns c =
     let q = refused c in
     let p = head q in
     let a = entry p .args in (
-      filled-stop (a .n) (a .d .now) (a .budget) (p .loop .inv .2) (q .one-column .ensures .0) (q .before .before .loop-test .taken) (c .before .before .before .before .enum-told .given .1),
+      filled-stop (a .n) (a .d .now) (a .budget) (p .loop .inv .2) (q .one-column .ensures) (q .before .before .loop-test .taken) (c .before .before .before .before .enum-told .given .1),
       c .before .before .fill-zero .ensures ∙ ap (λ (k : ℕ). replicate k 0) (sheet-length q),
     )
 
@@ -55,8 +55,8 @@ loop-again c =
     let o = q .one-column in (
       omega (arith, q .before .before .loop-test .taken),
       sheet-length q,
-      filled-more (a .n) (a .d .now) (a .budget) (l .inv .2) (o .ensures .0) (c .before .before .column .given .1) (c .larger .ensures)
-          (o .kept .1 .1 .1 .1 .0) (o .ensures .1 .0) (o .ensures .1 .1),
+      filled-more (a .n) (a .d .now) (a .budget) (l .inv .2) (o .ensures) (c .before .before .column .given .1) (c .larger .ensures)
+          (o .kept .1 .1 .1 .1 .0),
     )
 
 returns-2 : tie.Need-returns-2 Inv-loop μ-loop

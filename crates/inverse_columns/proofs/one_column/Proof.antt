@@ -1,6 +1,6 @@
 -- `inverse_columns::one_column` meets its contract, by those of what it calls. Assumes nothing.
-use mathlib.Core.List.{List, [], _∷_, _++_}
-use mathlib.Core.Path.{_≡_, sym, ap, subst, subst⁻¹, _∙_}
+use mathlib.Core.List.{List, _++_}
+use mathlib.Core.Path.{_≡_, sym, ap, subst⁻¹, _∙_}
 use Prim.Native.Nat.{ℕ, _≤_, _<_}
 use native.Mathlib.Nat.{le-trans}
 use native.Mathlib.Omega.{arith}
@@ -9,8 +9,10 @@ use lib.ListN.{length, set, replicate, take, drop, length-set}
 use lib.Seq.{length-take-le, take-at, length-front}
 use Rattle.model.specs.Numbers.{one, cell, at}
 use Rattle.model.specs.Table.{sectorLimit}
-use Rattle.model.specs.Rounds.{settling, settled, unit}
-use Rattle.model.specs.Checks.{demandLimit, reportRounds, verdict, output, single, settles}
+use Rattle.model.specs.Rounds.{settled, unit}
+use Rattle.model.specs.Checks.{demandLimit, reportRounds, output}
+use Rattle.theory_rounds.specs.Search.{nine}
+use Rattle.theory_rounds.proofs.Alike.{rows-settleable}
 use Rattle.inverse_columns.proofs.Leontief.{unit-made, unit-small}
 use Rattle.inverse_columns.proofs.one_column.Statement.{statement}
 use Rattle.inverse_columns.proofs.one_column.Tie as tie
@@ -34,23 +36,25 @@ entry q = q .before .before .before .before .before .before
 
 -- what the rounds leave
 abbrev amounts : tie.After-settle → List ℕ
-amounts q = q .settle .last .1 .1 .1 .1 .1 .0
+amounts q = q .settle .last .1 .1 .1 .1 .0
 
 amounts-length : (q : tie.After-settle) → length (amounts q) ≡ entry q .args .n
-amounts-length q = q .settle .kept .1 .1 .1 .1 .1 .0 ∙ part (entry q)
+amounts-length q = q .settle .kept .1 .1 .1 .1 .0 ∙ part (entry q)
 
 settle-requires : tie.Need-settle-requires
 settle-requires c κs =
     let s = c .before .before .before .before .before in (
-      (s .pre .0, demand-part s _, part s, part s),
-      subst⁻¹ (λ (u : List ℕ). (i : ℕ) → i < s .args .n → cell u i ≤ demandLimit) (demand s)
-          (λ i h. le-trans (unit-small (s .args .n) (s .args .j) i h) (omega arith)),
+      rows-settleable (s .pre .0) _ (demand-part s _)
+          (subst⁻¹ (λ (u : List ℕ). (i : ℕ) → i < s .args .n → cell u i ≤ demandLimit) (demand s)
+          (λ i h. le-trans (unit-small (s .args .n) (s .args .j) i h) (omega arith))),
+      part s,
+      part s,
     )
 
 amounts-part : tie.Need-array-share-prefix-amounts
 amounts-part c =
     let q = c .before .before in
-    subst⁻¹ (λ (k : ℕ). entry q .args .n ≤ k) (length-front zeros (amounts q) (entry q .args .n) (q .settle .kept .1 .1 .1 .1 .1 .0)) (entry q .pre .0 .few)
+    subst⁻¹ (λ (k : ℕ). entry q .args .n ≤ k) (length-front zeros (amounts q) (entry q .args .n) (q .settle .kept .1 .1 .1 .1 .0)) (entry q .pre .0 .few)
 
 stored : (q : tie.After-settle) → let n = entry q .args .n in take n (amounts q ++ drop n zeros) ≡ amounts q
 stored q = take-at (amounts q) (drop (entry q .args .n) zeros) (entry q .args .n) (amounts-length q)
@@ -66,15 +70,14 @@ returns c =
     let p = c .before .before .put-column in
     let a = entry q .args in
     let m = at (a .n) (a .d .now) in
-    let result = q .settle .result in (
-      subst (λ (u : List ℕ). reportRounds result ≡ verdict (single 9 (settles (a .n) m u (a .budget)) ∷ []) (settling (a .n) m u (a .budget) ∷ [])) (demand (entry q)) (q .settle .ensures .0),
-      (
-        λ i h. p .ensures .0 i h
-            ∙ ap (λ (l : List ℕ). cell l i)
-            (stored q ∙ q .settle .ensures .1 .0 ∙ ap (λ (u : List ℕ). output (reportRounds result) (a .n) (settled (a .n) m u (a .budget))) (demand (entry q))),
-        p .ensures .1,
-      ),
-    )
+    let result = reportRounds (q .settle .result) in
+    let e = demand (entry q) in
+    record {
+      answer = q .settle .ensures .answer ∙ ap (λ (u : List ℕ). nine (a .n) m u (a .budget)) e;
+      column = λ i h. p .ensures .0 i h
+          ∙ ap (λ (l : List ℕ). cell l i) (stored q ∙ q .settle .ensures .outputs ∙ ap (λ (u : List ℕ). output result (a .n) (settled (a .n) m u (a .budget))) e);
+      kept = p .ensures .1;
+    }
 
 pub one-column-spec : {M : Type 1} → statement M
 one-column-spec =

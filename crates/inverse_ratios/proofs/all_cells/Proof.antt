@@ -21,7 +21,7 @@ start p = p .before .before
 
 -- the sums of the columns
 abbrev sums : tie.At-loop Inv-loop μ-loop → ℕ → ℕ
-sums p = let a = start p .args in columnSum (a .n) (oriented (a .transposed) (at (a .n) (a .sheet .now)))
+sums p = let a = start p .args in columnSum (a .n) (oriented (a .by-rows) (at (a .n) (a .sheet .now)))
 
 room : (q : tie.After-column-sum Inv-loop μ-loop) → q .before .before .loop .total + sums (q .before .before) (q .before .before .loop .j) ≤ sectorLimit * inverseColumnLimit
 room q =

@@ -20,7 +20,7 @@ start p = p .before .before
 
 -- the cells of the column
 abbrev cells : tie.At-loop Inv-loop μ-loop → ℕ → ℕ
-cells p = let a = start p .args in transposed (oriented (a .transposed) (at (a .n) (a .sheet .now))) (a .j)
+cells p = let a = start p .args in transposed (oriented (a .by-rows) (at (a .n) (a .sheet .now))) (a .j)
 
 room : (q : tie.After-cell-at Inv-loop μ-loop) → q .before .before .loop .sum + cells (q .before .before) (q .before .before .loop .i) ≤ inverseColumnLimit
 room q =

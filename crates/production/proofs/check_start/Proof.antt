@@ -26,12 +26,12 @@ last q = let a = entry q .args in bounded 8 0 (a .limit) (a .start .now) ∷ []
 returns : tie.Need-returns
 returns c =
     let q = c .before .before .before in
-    answered-stop (asked q) (q .check-domestic .ensures) (last q) [] (c .before .matrix .given .1)
+    record { answer = answered-stop (asked q) (q .check-domestic .ensures) (last q) [] (c .before .matrix .given .1) }
 
 returns-2 : tie.Need-returns-2
 returns-2 c =
     let q = c .before .before .before in
-    c .cells-within .ensures ∙ answered-on (asked q) (q .check-domestic .ensures) (last q) [] (c .before .enum-told .given .1)
+    record { answer = c .cells-within .ensures ∙ answered-on (asked q) (q .check-domestic .ensures) (last q) [] (c .before .enum-told .given .1) }
 
 pub check-start-spec : {M : Type 1} → statement M
 check-start-spec =

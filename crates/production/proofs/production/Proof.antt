@@ -1,17 +1,53 @@
--- `production::production` meets its contract: what `solve` gives keeps every promise. Assumes nothing.
+-- `production::production` meets its contract: what its checks and its rounds give keeps every promise. Assumes nothing.
+use mathlib.Core.List.{List}
+use Prim.Native.Nat.{ℕ}
 use borrow.Author.Needs.{needs}
+use lib.ListN.{length}
+use Rattle.model.specs.Numbers.{at}
+use Rattle.model.specs.Checks.{Report, demandLimit}
 use Rattle.model.specs.Calls.{productionReport}
+use Rattle.model.specs.Contracts.{Produced}
+use Rattle.theory_rounds.proofs.Alike.{rows-settleable}
 use Rattle.theory_rounds.proofs.Promises.{produced}
+use Rattle.production.proofs.Solving.{Solved, solved-stop, passed, solved-on}
 use Rattle.production.proofs.production.Statement.{statement}
 use Rattle.production.proofs.production.Tie as tie
 
-returns : tie.Need-returns
+abbrev entry : tie.After-check-start → tie.Start
+entry q = q .before .before .before .before .before
+
+-- what is answered and left keeps the promises
+kept : (q : tie.After-check-start) {r : Report} {out work : List ℕ} → let a = entry q .args in
+    Solved (a .n) (a .d .now) (at (a .n) (a .d .now)) demandLimit (a .f .now) (a .budget) (length (a .out .now)) (length (a .work .now)) r out work
+    → Produced (a .n) (a .d .now) (a .f .now) (a .budget) (a .out .now) (a .work .now) r out work
 unfolding productionReport
+kept q e =
+    let a = entry q .args in
+    produced (a .n) (a .d .now) (a .f .now) (a .budget) (a .out .now) (a .work .now) (e .answer) (e .outputs) (e .cleared)
+
+settle-requires : tie.Need-settle-requires
+settle-requires c κs =
+    let q = c .before .before .before .before in
+    let s = passed (q .check-start .ensures) (c .before .before .enum-told .given .1) in
+    (rows-settleable (s .matrix) (entry q .args .f .now) (s .start) (s .small), s .slices .0, s .slices .1 .0)
+
+returns : tie.Need-returns
 returns c =
-    let e = c .before .before .before .before .solve .ensures in
-    let a = c .before .before .before .before .before .before .before .before .before .before .before .args in
-    produced (a .n) (a .d .now) (a .f .now) (a .budget) (a .out .now) (a .work .now) (e .0) (e .1 .0) (e .1 .1)
+    let r = c .before .before .before .before in
+    let k = r .before .before .before .before in
+    let q = k .before .before in
+    kept q (solved-stop (q .check-start .ensures) (k .checked .given .1) (r .refuse .ensures))
+
+returns-2 : tie.Need-returns-2
+returns-2 c =
+    let r = c .before .before .before .before in
+    let p = r .before .before .before in
+    let q = p .before .before in
+    kept q (solved-on (q .check-start .ensures) (p .enum-told .given .1) (r .settle .ensures))
 
 pub production-spec : {M : Type 1} → statement M
 production-spec =
-    tie.close (tie.spec (λ c κs. search needs) (λ c. search needs) (λ c. search needs) returns)
+    tie.close
+    (tie.spec
+    (λ c κs. search needs) (λ c. search needs) (λ c κs. search needs) (λ c. search needs) settle-requires (λ c. search needs)
+    (λ c. search needs) returns (λ c. search needs) (λ c. search needs) returns-2)

@@ -5,13 +5,12 @@ use Prim.Native.Nat.{ℕ, _+_, _≤_, _<_, _-_}
 use native.Mathlib.Nat.{lt-of-le-of-lt}
 use native.Mathlib.Omega.{arith}
 use borrow.Author.Tests.{eq-eqb, ne-eqb, ltb-true}
-use lib.ListN.{length, length-replicate}
+use lib.ListN.{length}
 use Rattle.model.specs.Numbers.{at}
 use Rattle.model.specs.Rounds.{rounds, changes, Settles}
 use Rattle.theory.proofs.Lists.{All}
 use Rattle.theory_rounds.specs.Bounds.{Narrow, narrowLimit}
-use Rattle.theory_rounds.specs.Rises.{Carried}
-use Rattle.theory_rounds.proofs.Rises.{carried-start}
+use Rattle.settle_sums.specs.Sums.{Carried}
 use Rattle.theory_rounds.proofs.Rounds.{rising-from}
 use Rattle.theory_rounds.proofs.Settling.{none-yet, turn-amounts, turn-settles, turn-more}
 use Rattle.theory_rounds.proofs.Answers.{nine-passed, nine-failed}
@@ -51,17 +50,25 @@ settles c =
 loop-holds : tie.Need-loop-holds Inv-loop μ-loop
 unfolding rounds
 loop-holds c =
-    let s = c .before .before .before .before .before in
-    let a = s .args in (
+    let s = c .before .before .before .before .before in (
       omega arith,
       refl,
       refl,
       refl,
-      s .pre .0 .2,
+      s .pre .1,
       none-yet _ _ _,
-      λ i h. rw (s .pre .0 .2, s .pre .0 .3, s .pre .0 .4) (carried-start (a .n) (a .d .now) (a .start .now) i h),
-      λ t. subst⁻¹ Narrow (s .pre .0 .3) (λ k h. omega (arith, s .pre .1 .0 k (subst (λ (x : ℕ). k < x) (s .pre .0 .1) h))),
+      s .pre .3,
+      λ t. subst⁻¹ Narrow (s .pre .2) (λ k h. omega (arith, s .pre .0 .small k (subst (λ (x : ℕ). k < x) (s .pre .0 .sectors) h))),
     )
+
+-- the rises and the outputs of a turn have a cell a sector
+sectors :
+    (p : tie.At-loop Inv-loop μ-loop) →
+    let n = entry p .args .n in
+    (length (p .loop .out) ≡ n) × (length (p .loop .rises) ≡ n)
+sectors p =
+    let s = entry p in
+    (p .loop .inv .1 ∙ ap length (s .pre .1) ∙ s .pre .0 .sectors, p .loop .inv .2 ∙ ap length (s .pre .2) ∙ s .pre .0 .sectors)
 
 turn-requires : tie.Need-turn-requires Inv-loop μ-loop
 turn-requires c κs =
@@ -69,18 +76,12 @@ turn-requires c κs =
     let l = p .loop in
     let s = entry p in
     let a = s .args in (
+      (s .pre .0 .cells, s .pre .0 .sectors, sectors p .0, sectors p .1),
       (
-        s .pre .0 .0,
-        s .pre .0 .1,
-        l .inv .1 ∙ ap length (s .pre .0 .2) ∙ s .pre .0 .1,
-        l .inv .2 ∙ ap length (s .pre .0 .3) ∙ s .pre .0 .1,
-        l .inv .3 ∙ ap length (s .pre .0 .4) ∙ length-replicate (a .n) 0,
-      ),
-      (
-        (s .pre .1 .1 .0, l .inv .7, l .inv .6),
+        (s .pre .0 .narrow, l .inv .7, l .inv .6),
         (
-          s .pre .1 .0,
-          (rw (l .inv .4) (s .pre .1 .1 .1 (l .done)), rising-from (a .n) (coefficients p) (a .start .now) (l .done) (l .out) (l .inv .4)),
+          s .pre .0 .small,
+          (rw (l .inv .4) (s .pre .0 .fits (l .done)), rising-from (a .n) (coefficients p) (a .start .now) (l .done) (l .out) (l .inv .4)),
         ),
       ),
     )
@@ -115,7 +116,7 @@ loop-again c =
       turn-amounts (a .n) (coefficients p) (a .start .now) (l .done) (l .out) (l .inv .4) (l .inv .5) (q .turn .ensures .1 .1 .0),
       turn-more (a .n) (coefficients p) (a .start .now) (l .done) (l .out) (l .inv .4) (l .inv .5) (sym (ne-eqb _ 0 (c .if1 .left)) ∙ q .turn .ensures .0),
       q .turn .ensures .1 .1 .1,
-      λ t k h. lt-of-le-of-lt (q .turn .ensures .1 .0 k (subst (λ (x : ℕ). k < x) (lengths q .1 ∙ ap length (entry p .pre .0 .3) ∙ entry p .pre .0 .1) h)) (ltb-true _ narrowLimit t),
+      λ t k h. lt-of-le-of-lt (q .turn .ensures .1 .0 k (subst (λ (x : ℕ). k < x) (q .turn .kept .1 .1 .1 .1 .1 .0 ∙ sectors p .1) h)) (ltb-true _ narrowLimit t),
     )
 
 returns-2 : tie.Need-returns-2 Inv-loop μ-loop

@@ -4,7 +4,7 @@ use mathlib.Core.Path.{_≡_, sym, ap, _∙_}
 use Prim.Native.Nat.{ℕ}
 use borrow.Author.Needs.{needs}
 use lib.ListN.{length, replicate}
-use Rattle.model.specs.Numbers.{at, oriented}
+use Rattle.model.specs.Numbers.{at}
 use Rattle.model.specs.Rounds.{settled}
 use Rattle.model.specs.Checks.{reportRounds}
 use Rattle.model.specs.declared.Outcome.{Outcome}
@@ -12,45 +12,49 @@ use Rattle.theory_rounds.proofs.Settling.{found}
 use Rattle.settle_loop.proofs.settle.Statement.{statement}
 use Rattle.settle_loop.proofs.settle.Tie as tie
 
-abbrev entry : tie.After-run-rounds → tie.Start
+abbrev entry : tie.After-run-rows → tie.Start
 entry q = q .before .before .before .before .before .before .before .before .before .before .before
 
-abbrev searched : tie.After-fill-zero → tie.After-run-rounds
+abbrev searched : tie.After-fill-zero → tie.After-run-rows
 searched q = q .before .before .before .before .before .before
 
 -- the lengths of the outputs and of the work cells after the rounds, and the work cells once they are cleared
-out-length : (q : tie.After-run-rounds) → length (q .run-rounds .last .1 .1 .1 .1 .1 .0) ≡ entry q .args .n
+out-length : (q : tie.After-run-rows) → length (q .run-rows .last .1 .1 .1 .1 .0) ≡ entry q .args .n
 out-length q =
-    q .run-rounds .kept .1 .1 .1 .1 .1 .0 ∙ ap length (q .before .before .before .before .before .copy-cells .ensures) ∙ entry q .pre .0 .1
+    q .run-rows .kept .1 .1 .1 .1 .0 ∙ ap length (q .before .before .before .before .before .copy-cells .ensures) ∙ entry q .pre .0 .sectors
 
-cleared : (f : tie.After-fill-zero) → f .fill-zero .last .0 ≡ replicate (entry (searched f) .args .n) 0
-cleared f =
+zeros : (f : tie.After-fill-zero) → f .fill-zero .last .0 ≡ replicate (entry (searched f) .args .n) 0
+zeros f =
     let q = searched f in
-    f .fill-zero .ensures ∙ ap (λ (k : ℕ). replicate k 0) (q .run-rounds .kept .1 .1 .1 .1 .1 .1 .0 ∙ entry q .pre .0 .3)
+    f .fill-zero .ensures ∙ ap (λ (k : ℕ). replicate k 0) (q .run-rows .kept .1 .1 .1 .1 .1 .0 ∙ entry q .pre .2)
 
 -- outputs that a settled search leaves are the settled amounts
 amounts :
-    (q : tie.After-run-rounds) → reportRounds (q .run-rounds .result) .accepted ≡ true →
+    (q : tie.After-run-rows) → reportRounds (q .run-rows .result) .accepted ≡ true →
     let a = entry q .args in
-    q .run-rounds .last .1 .1 .1 .1 .1 .0 ≡ settled (a .n) (oriented (a .transposed) (at (a .n) (a .d .now))) (a .start .now) (a .budget)
+    q .run-rows .last .1 .1 .1 .1 .0 ≡ settled (a .n) (at (a .n) (a .d .now)) (a .start .now) (a .budget)
 amounts q e =
     let a = entry q .args in
-    let s = q .run-rounds .ensures .1 e in
-    sym (found (a .n) (oriented (a .transposed) (at (a .n) (a .d .now))) (a .start .now) (a .budget) (s .0) (s .1) .1)
+    let s = q .run-rows .ensures .1 e in
+    sym (found (a .n) (at (a .n) (a .d .now)) (a .start .now) (a .budget) (s .0) (s .1) .1)
 
 returns : tie.Need-returns
 returns c =
     let f = c .before .before .before .before .before .before .before .before .before in
     let q = searched f in
     let e = c .before .before .before .before .before .outcome .given .1 in
-    (sym (ap reportRounds e) ∙ q .run-rounds .ensures .0, (c .before .before .fill-zero2 .ensures ∙ ap (λ (k : ℕ). replicate k 0) (out-length q), cleared f))
+    record {
+      answer = sym (ap reportRounds e) ∙ q .run-rows .ensures .0;
+      outputs = c .before .before .fill-zero2 .ensures ∙ ap (λ (k : ℕ). replicate k 0) (out-length q);
+      cleared = zeros f;
+    }
 
 returns-2 : tie.Need-returns-2
 returns-2 c =
     let f = c .before .before .before .before in
     let q = searched f in
     let t = ap (λ (o : Outcome). reportRounds o .accepted) (c .enum-told .given .1) in
-    (q .run-rounds .ensures .0, (rw t (amounts q t), cleared f))
+    record { answer = q .run-rows .ensures .0; outputs = rw t (amounts q t); cleared = zeros f }
 
 pub settle-spec : {M : Type 1} → statement M
 settle-spec =

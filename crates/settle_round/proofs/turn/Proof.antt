@@ -1,15 +1,18 @@
 -- `settle_round::turn` meets its contract: sums has the weighted sums of the amounts of out, and out then its round. Assumes nothing.
 use mathlib.Core.List.{List}
 use mathlib.Core.Path.{_≡_, ap, sym, subst⁻¹, _∙_}
-use Prim.Native.Nat.{ℕ, _≤_, _<_, _-_}
+use Prim.Native.Nat.{ℕ, _+_, _≤_, _<_, _-_}
+use native.Mathlib.Nat.{le-refl}
+use native.Mathlib.Omega.{arith}
 use borrow.Author.Needs.{needs}
 use Rattle.model.specs.Numbers.{at, cell, same, tabulate}
 use Rattle.model.specs.Rounds.{round}
-use Rattle.model.specs.Checks.{demandLimit}
-use Rattle.theory_rounds.specs.Bounds.{sumLimit}
-use Rattle.theory_rounds.specs.Rises.{advanced}
-use Rattle.theory.proofs.Lists.{cell-tabulate, tabulate-cong}
-use Rattle.theory_rounds.proofs.Rises.{new-sum, round-advanced, carried-on}
+use Rattle.model.specs.Checks.{productionLimit}
+use Rattle.theory.proofs.Lists.{tabulated, tabulate-cong}
+use Rattle.theory_rounds.proofs.Rounds.{intermediate-within, round-cell, length-round}
+use Rattle.settle_sums.specs.Sums.{SumsOf, taken}
+use Rattle.settle_sums.proofs.Carrying.{carried-fits, carried-on, has-sum, taken-is}
+use Rattle.settle_round.specs.Advance.{advanced}
 use Rattle.settle_round.proofs.turn.Statement.{statement}
 use Rattle.settle_round.proofs.turn.Tie as tie
 
@@ -22,41 +25,44 @@ sums q = q .add-rises .last .1 .1 .1 .1 .0
 abbrev next : tie.After-add-rises → List ℕ
 next q = let a = entry q .args in round (a .n) (at (a .n) (a .d .now)) (a .start .now) (a .out .now)
 
--- the round is what the new sums make of the start
+-- the sums are those of the amounts, so the round is what they make of the start
+summed : (q : tie.After-add-rises) → SumsOf (entry q .args .n) (entry q .args .d .now) (sums q) (entry q .args .out .now)
+summed q = q .add-rises .ensures (entry q .args .out .now) (entry q .pre .1 .0 .2)
+
+made-cell : (q : tie.After-add-rises) (i : ℕ) → i < entry q .args .n → advanced (entry q .args .start .now) (sums q) i ≡ cell (next q) i
+made-cell q i h =
+    let a = entry q .args in
+    ap (λ (x : ℕ). cell (a .start .now) i + x) (taken-is (summed q) i h) ∙ sym (round-cell (a .n) (at (a .n) (a .d .now)) (a .start .now) (a .out .now) i h)
+
 made : (q : tie.After-add-rises) → tabulate (entry q .args .n) (advanced (entry q .args .start .now) (sums q)) ≡ next q
 made q =
     let a = entry q .args in
-    round-advanced (a .n) (a .d .now) (a .rises .now) (a .sums .now) (a .out .now) (sums q) (entry q .pre .1 .0 .2) (q .add-rises .ensures) (a .start .now)
+    sym (tabulated (a .n) (a .n) (advanced (a .start .now) (sums q)) (next q) (length-round (a .n) (at (a .n) (a .d .now)) (a .start .now) (a .out .now))
+    (le-refl _) (λ i h. sym (made-cell q i h)))
 
-made-cell : (q : tie.After-add-rises) (i : ℕ) → i < entry q .args .n → advanced (entry q .args .start .now) (sums q) i ≡ cell (next q) i
-made-cell q i h = sym (cell-tabulate (entry q .args .n) (advanced (entry q .args .start .now) (sums q)) i h) ∙ ap (λ (l : List ℕ). cell l i) (made q)
-
--- a sector's start and its sum are within their limits, and it does not fall
-room :
-    (q : tie.After-add-rises) (i : ℕ) → i < entry q .args .n →
-    let a = entry q .args in
-    (cell (a .start .now) i ≤ demandLimit) × (cell (sums q) i ≤ sumLimit) × (cell (a .out .now) i ≤ advanced (a .start .now) (sums q) i)
+-- what industry takes of a sector is within its limit
+room : (q : tie.After-add-rises) (i : ℕ) → i < entry q .args .n → taken (sums q) i ≤ productionLimit
 room q i h =
     let s = entry q in
     let a = s .args in
-    let e = new-sum (a .n) (a .d .now) (a .rises .now) (a .sums .now) (a .out .now) (sums q) (s .pre .1 .0 .2) (q .add-rises .ensures) i h in (
-      s .pre .1 .1 .0 i h,
-      subst⁻¹ (λ (x : ℕ). x ≤ sumLimit) e (s .pre .1 .1 .1 .0 i h),
-      subst⁻¹ (λ (x : ℕ). cell (a .out .now) i ≤ x) (made-cell q i h) (s .pre .1 .1 .1 .1 i h),
-    )
+    omega (arith, taken-is (summed q) i h, intermediate-within (a .n) (at (a .n) (a .d .now)) (cell (a .out .now)) i, s .pre .1 .1 .1 .0 i h)
 
 add-rises-requires : tie.Need-add-rises-requires
 add-rises-requires c κs =
-    let s = c .before .before .before .before .before .before .before in (
-      (s .pre .0 .0, s .pre .0 .3, s .pre .0 .4),
-      ((s .pre .1 .0 .0, s .pre .1 .0 .1), λ i h. subst⁻¹ (λ (x : ℕ). x ≤ sumLimit) (s .pre .1 .0 .2 i h) (s .pre .1 .1 .1 .0 i h)),
-    )
+    let s = c .before .before .before .before .before .before .before in
+    ((s .pre .0 .0, s .pre .0 .3), ((s .pre .1 .0 .0, s .pre .1 .0 .1), carried-fits (s .pre .1 .0 .2) (s .pre .1 .1 .1 .0)))
 
 advance-requires : tie.Need-advance-requires
 advance-requires c κs =
     let q = c .before .before .before .before .before in
     let s = entry q in
-    ((s .pre .0 .1, q .add-rises .kept .1 .1 .1 .1 .0 ∙ s .pre .0 .4, s .pre .0 .2, s .pre .0 .3), room q)
+    let a = s .args in (
+      (s .pre .0 .1, s .pre .0 .2, s .pre .0 .3),
+      (
+        λ i h. (has-sum (summed q) i h, room q i h),
+        λ i h. (s .pre .1 .1 .0 i h, subst⁻¹ (λ (x : ℕ). cell (a .out .now) i ≤ x) (made-cell q i h) (s .pre .1 .1 .1 .1 i h)),
+      ),
+    )
 
 returns : tie.Need-returns
 returns c =
@@ -71,10 +77,7 @@ returns c =
         v .ensures .1 .0,
         (
           out,
-          λ i h.
-              rw out
-              (carried-on (a .n) (a .d .now) (a .rises .now) (a .sums .now) (a .out .now) (sums q) (s .pre .1 .0 .2) (q .add-rises .ensures)
-              (next q) _ (s .pre .1 .1 .1 .1) rose i h),
+          rw out (carried-on (summed q) (next q) _ (s .pre .1 .1 .1 .1) rose),
         ),
       ),
     )

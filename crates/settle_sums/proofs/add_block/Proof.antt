@@ -1,19 +1,19 @@
 -- `settle_sums::add_block` meets its contract: to each of the four sums the first j products of its row are added. Assumes nothing.
-use mathlib.Core.Path.{_≡_, refl, ap, subst, _∙_}
+use mathlib.Core.Path.{_≡_, refl, ap, subst, subst⁻¹, _∙_}
 use Prim.Native.Nat.{ℕ, _+_, _*_, _≤_, _-_}
 use native.Mathlib.Omega.{arith}
 use lib.ListN.{length}
 use Rattle.model.specs.Numbers.{sum, at, cell}
 use Rattle.model.specs.Rounds.{product}
-use Rattle.theory_rounds.specs.Rises.{Written}
+use Rattle.settle_sums.specs.Sums.{Written}
 use Rattle.theory.proofs.Sums.{sum-more, sum-room}
-use Rattle.theory_rounds.proofs.Rises.{written-again}
+use Rattle.settle_sums.proofs.Writing.{written-again}
 use Rattle.settle_sums.proofs.add_block.Statement.{statement}
 use Rattle.settle_sums.proofs.add_block.Tie as tie
 
 abbrev Inv-loop : tie.InvT-loop
 Inv-loop n d narrow rises i sums₀ j₀ sums j =
-    (j ≤ n) × (length sums ≡ n) × Written sums i 4 (λ c. cell sums₀ c + sum j (product (at n d) (cell rises) c)) sums₀
+    (j ≤ n) × (length sums ≡ length sums₀) × Written sums i 4 (λ c. cell sums₀ c + sum j (product (at n d) (cell rises) c)) sums₀
 
 abbrev μ-loop : tie.MeasureT-loop
 μ-loop n d narrow rises i sums₀ j₀ sums j = n - j
@@ -42,7 +42,7 @@ term q c =
     ap (λ (x : ℕ). at (a .n) (a .d .now) c (p .loop .j) * x) (q .narrowed .ensures)
 
 loop-holds : tie.Need-loop-holds Inv-loop μ-loop
-loop-holds c = let s = c .before .before .before in (omega arith, s .pre .0 .2, (λ k g h. omega arith, λ k h. refl, λ k h. refl))
+loop-holds c = let s = c .before .before .before in (omega arith, refl, (λ k g h. omega arith, λ k h. refl, λ k h. refl))
 
 narrowed-requires : tie.Need-narrowed-requires Inv-loop μ-loop
 narrowed-requires c κs =
@@ -58,7 +58,7 @@ add-products-requires c κs =
     let p = q .before .before .before in
     let s = entry p in
     let l = p .loop in (
-      (s .pre .0 .0, l .inv .1, taken, s .pre .0 .3, s .pre .1 .0 .0),
+      (s .pre .0 .0, subst⁻¹ (λ (k : ℕ). s .args .n ≤ k) (l .inv .1) (s .pre .0 .2), taken, s .pre .0 .3, s .pre .1 .0 .0),
       λ k g h.
           omega (
             arith,

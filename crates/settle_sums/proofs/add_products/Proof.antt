@@ -1,20 +1,20 @@
 -- `settle_sums::add_products` meets its contract: the sums of the first k rows of the four are written. Assumes nothing.
-use mathlib.Core.Path.{_≡_, ap, ap₂, subst}
+use mathlib.Core.Path.{_≡_, refl, ap, ap₂, subst}
 use Prim.Native.Nat.{ℕ, _+_, _*_, _%_, _≤_, _<_, _-_}
 use native.Mathlib.Nat.{le-refl}
 use native.Mathlib.Omega.{arith}
 use lib.ListN.{length, length-set}
 use Rattle.model.specs.Numbers.{at, cell}
 use Rattle.theory_rounds.specs.Bounds.{sumLimit, narrowLimit}
-use Rattle.theory_rounds.specs.Rises.{Written}
+use Rattle.settle_sums.specs.Sums.{Written}
 use Rattle.theory.proofs.Sums.{cell-in}
-use Rattle.theory_rounds.proofs.Rises.{written-none, written-set}
+use Rattle.settle_sums.proofs.Writing.{written-none, written-set}
 use Rattle.settle_sums.proofs.Narrowing.{own-remainder}
 use Rattle.settle_sums.proofs.add_products.Statement.{statement}
 use Rattle.settle_sums.proofs.add_products.Tie as tie
 
 abbrev Inv-loop : tie.InvT-loop
-Inv-loop n d j rise i sums₀ k₀ sums k = (k ≤ 4) × (length sums ≡ n) × Written sums i k (λ c. cell sums₀ c + at n d c j * rise) sums₀
+Inv-loop n d j rise i sums₀ k₀ sums k = (k ≤ 4) × (length sums ≡ length sums₀) × Written sums i k (λ c. cell sums₀ c + at n d c j * rise) sums₀
 
 abbrev μ-loop : tie.MeasureT-loop
 μ-loop n d j rise i sums₀ k₀ sums k = 4 - k
@@ -57,7 +57,7 @@ room :
 room q = q .before .before .pre .1 (row q) (omega arith) (omega (arith, q .loop-test .taken))
 
 loop-holds : tie.Need-loop-holds Inv-loop μ-loop
-loop-holds c = (omega arith, c .pre .0 .1, written-none (c .args .sums .now) (c .args .i) _)
+loop-holds c = (omega arith, refl, written-none (c .args .sums .now) (c .args .i) _)
 
 loop-again : tie.Need-loop-again Inv-loop μ-loop
 loop-again c =

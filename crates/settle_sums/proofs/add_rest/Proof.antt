@@ -1,18 +1,18 @@
 -- `settle_sums::add_rest` meets its contract: k sums from row i on are written. Assumes nothing.
-use mathlib.Core.Path.{_≡_, ap₂, subst}
+use mathlib.Core.Path.{_≡_, refl, ap₂, subst}
 use Prim.Native.Nat.{ℕ, _+_, _≤_, _<_, _-_}
 use native.Mathlib.Nat.{le-refl}
 use native.Mathlib.Omega.{arith}
 use lib.ListN.{length, length-set}
 use Rattle.model.specs.Numbers.{cell}
 use Rattle.theory_rounds.specs.Bounds.{sumLimit}
-use Rattle.theory_rounds.specs.Rises.{raised, Written}
-use Rattle.theory_rounds.proofs.Rises.{written-none, written-set}
+use Rattle.settle_sums.specs.Sums.{raised, Written}
+use Rattle.settle_sums.proofs.Writing.{written-none, written-set}
 use Rattle.settle_sums.proofs.add_rest.Statement.{statement}
 use Rattle.settle_sums.proofs.add_rest.Tie as tie
 
 abbrev Inv-loop : tie.InvT-loop
-Inv-loop n d rises i sums₀ k₀ k-end sums k = (k ≤ n - i) × (length sums ≡ n) × Written sums i k (raised n d rises sums₀) sums₀
+Inv-loop n d rises i sums₀ k₀ k-end sums k = (k ≤ n - i) × (length sums ≡ length sums₀) × Written sums i k (raised n d rises sums₀) sums₀
 
 abbrev μ-loop : tie.MeasureT-loop
 μ-loop n d rises i sums₀ k₀ k-end sums k = n - i - k
@@ -42,7 +42,7 @@ stands :
 stands q = ap₂ _+_ (q .before .before .loop .inv .2 .2 (row (q .before)) (le-refl _)) (q .weighted-sum .ensures)
 
 loop-holds : tie.Need-loop-holds Inv-loop μ-loop
-loop-holds c = let s = c .before .before .before in (omega arith, s .pre .0 .2, written-none (s .args .sums .now) (s .args .i) _)
+loop-holds c = let s = c .before .before .before in (omega arith, refl, written-none (s .args .sums .now) (s .args .i) _)
 
 weighted-sum-requires : tie.Need-weighted-sum-requires Inv-loop μ-loop
 weighted-sum-requires c κs =

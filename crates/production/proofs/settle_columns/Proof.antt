@@ -1,6 +1,6 @@
--- `settle_loop::run_columns` meets its contract: the rows of the copy are alike to the columns of d, so their rounds are the same. Assumes nothing.
+-- `production::settle_columns` meets its contract: the rows of the copy are alike to the columns of d, so their rounds are the same. Assumes
+-- nothing.
 use mathlib.Core.List.{List, _++_}
-use mathlib.Core.Bool.{true}
 use mathlib.Core.Path.{_≡_, sym, ap, subst, subst⁻¹, _∙_}
 use Prim.Native.Nat.{ℕ, _*_, _≤_}
 use native.Mathlib.Nat.{mul-le-mul}
@@ -8,18 +8,17 @@ use borrow.Author.Needs.{needs}
 use lib.ListN.{length, replicate, take, drop}
 use lib.Seq.{length-take-le, take-at, length-front}
 use Rattle.model.specs.Numbers.{at, transposed}
+use Rattle.model.specs.Table.{sheetLimit}
 use Rattle.model.specs.Checks.{reportRounds}
-use Rattle.theory_rounds.specs.Bounds.{Narrow, RoundsFit}
-use Rattle.theory_rounds.specs.Search.{Searched}
-use Rattle.theory_rounds.proofs.Alike.{searched-alike, fits-alike, transposed-narrow}
-use Rattle.theory_rounds.proofs.Promises.{rounds-fit}
-use Rattle.settle_loop.proofs.run_columns.Statement.{statement}
-use Rattle.settle_loop.proofs.run_columns.Tie as tie
+use Rattle.theory_rounds.specs.Search.{Settleable, Settlement}
+use Rattle.theory_rounds.proofs.Alike.{columns-settleable, settlement-alike}
+use Rattle.production.proofs.settle_columns.Statement.{statement}
+use Rattle.production.proofs.settle_columns.Tie as tie
 
 abbrev zeros : List ℕ
-zeros = replicate 1600 0
+zeros = replicate sheetLimit 0
 
-small : (s : tie.Start) → s .args .n * s .args .n ≤ 1600
+small : (s : tie.Start) → s .args .n * s .args .n ≤ sheetLimit
 small s = mul-le-mul (s .pre .0 .0 .few) (s .pre .0 .0 .few)
 
 -- the part of the array that is lent
@@ -47,39 +46,31 @@ rows-part c =
     let m = entry q .args .n * entry q .args .n in
     subst⁻¹ (λ (k : ℕ). m ≤ k) (length-front zeros (rows q) m (q .transpose .kept .1 .1 .0)) (small (entry q))
 
-run-rows-requires : tie.Need-run-rows-requires
-run-rows-requires c κs =
+settle-requires : tie.Need-settle-requires
+settle-requires c κs =
     let q = c .before .before .before .before in
     let s = entry q in
-    let n = s .args .n in
-    let A = s .pre .0 .0 in
-    let start = s .args .start .now in
-    let alike = q .transpose .ensures in (
-      (A .few, ap length (stored q) ∙ rows-length q, s .pre .0 .1, s .pre .0 .2, s .pre .0 .3),
-      (
-        s .pre .1,
-        (
-          subst⁻¹ Narrow (stored q) (transposed-narrow A (rows q) (rows-length q) alike),
-          subst⁻¹ (λ (t : List ℕ). RoundsFit n (at n t) start) (stored q)
-              (fits-alike n (at n (rows q)) (transposed (at n (s .args .d .now))) alike start (rounds-fit A start (s .pre .1) true)),
-        ),
-      ),
+    let start = s .args .start .now in (
+      subst⁻¹ (λ (t : List ℕ). Settleable (s .args .n) t start) (stored q)
+          (columns-settleable (s .pre .0 .0) start (s .pre .0 .1) (s .pre .1) (rows q) (rows-length q) (q .transpose .ensures)),
+      s .pre .0 .2,
+      s .pre .0 .3,
     )
 
 returns : tie.Need-returns
 returns c =
+    let r = c .before .before .before .before .settle in
     let q = c .before .before .before .before .before .before .before .before .before in
-    let r = c .before .before .before .before .run-rows in
     let a = entry q .args in
     let n = a .n in
-    searched-alike n (at n (rows q)) (transposed (at n (a .d .now))) (q .transpose .ensures) (a .start .now) (a .budget) _ _
-    (subst (λ (l : List ℕ). Searched n (at n l) (a .start .now) (a .budget) (reportRounds (r .result)) (r .last .1 .1 .1 .1 .0)) (stored q) (r .ensures))
+    settlement-alike n (at n (rows q)) (transposed (at n (a .d .now))) (q .transpose .ensures) (a .start .now)
+    (subst (λ (l : List ℕ). Settlement n (at n l) (a .start .now) (a .budget) (reportRounds (r .result)) (r .last .1 .1 .1 .1 .0) (r .last .1 .1 .1 .1 .1 .0)) (stored q) (r .ensures))
 
-pub run-columns-spec : {M : Type 1} → statement M
-run-columns-spec =
+pub settle-columns-spec : {M : Type 1} → statement M
+settle-columns-spec =
     tie.close
     (tie.spec
     (λ c. search needs) (λ c. small (c .before .before .before .before)) (λ c. sym (part (c .before .before .before .before .before)))
     (λ c κs. let s = c .before .before .before .before .before in (s .pre .0 .0 .cells, part s)) rows-part
-    (λ c. let q = c .before .before in sym (ap length (stored q) ∙ rows-length q)) run-rows-requires
+    (λ c. let q = c .before .before in sym (ap length (stored q) ∙ rows-length q)) settle-requires
     (λ c. search needs) (λ c. search needs) returns)

@@ -1,0 +1,2 @@
+-- Laws that the proofs of production and price share.
+pub mod Solving

@@ -1,0 +1,2 @@
+-- What the contracts cite beside the definitions of `model` and those of the sums.
+pub mod Advance
