@@ -46,6 +46,7 @@ counted-nonzero : (place limit : ℕ) (ss : List (List ℕ)) (qs rs : List Check
 counted-nonzero place limit [] qs rs e = e
 counted-nonzero place limit (s ∷ ss) qs rs e = counted-nonzero (place + length s) limit ss qs rs e
 
+-- Theorems, for the reader: each call, from `coefficients-number` to `page-number`, is accepted exactly where its number is 0
 module _ (t : Table) (matrices lent : List ℕ) where
   pub coefficients-number : Numbered (coefficientsReport t matrices lent)
   unfolding coefficientsReport

@@ -24,7 +24,7 @@ pub record Fit (x f e m v p r : ℕ) : Type 0 where
   pub production : p ≡ sectorLimit
   pub rises : r ≡ sectorLimit
 
-pub fit : (x f e m v p r k : ℕ) → fits x (f ∷ e ∷ m ∷ v ∷ p ∷ r ∷ []) k ≡ true → Fit x f e m v p r
+fit : (x f e m v p r k : ℕ) → fits x (f ∷ e ∷ m ∷ v ∷ p ∷ r ∷ []) k ≡ true → Fit x f e m v p r
 fit x f e m v p r k q =
     let c : List ℕ = f ∷ e ∷ m ∷ v ∷ p ∷ r ∷ [] in
     let a = and-true (eqb sheetLimit x && all (eqb sectorLimit) c) (eqb wordLimit k) q in

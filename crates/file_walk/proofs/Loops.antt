@@ -17,7 +17,7 @@ use Rattle.file_walk.proofs.WalkLaws.{one-more}
 use Rattle.file_walk.proofs.CellLaws.{held-none, held-refused}
 
 -- a cell by its word, its position and its amount
-pub as-entry : (e : Entry) (l p a : ℕ) → l ≡ e .word → p ≡ e .position → a ≡ e .amount → record { word = l; position = p; amount = a } ≡ e
+as-entry : (e : Entry) (l p a : ℕ) → l ≡ e .word → p ≡ e .position → a ≡ e .amount → record { word = l; position = p; amount = a } ≡ e
 as-entry e l p a x y z =
     ap (λ (k : ℕ). record { word = k; position = p; amount = a }) x
     ∙ ap (λ (k : ℕ). record { word = e .word; position = k; amount = a }) y

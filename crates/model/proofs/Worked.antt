@@ -125,12 +125,13 @@ rows =
     ∷ inverseOf 1 (500000 ∷ []) 4294967295 ⊳ (accepts (21 ∷ []) leaving ((1999999 ∷ []) ∷ (1000000 ∷ []) ∷ (1000000 ∷ []) ∷ []))
     ∷ []
 
+-- Theorem, for the reader: every case above is answered as the paper states it
 pub worked : map (λ (r : Row). r .given) rows ≡ map (λ (r : Row). r .stated) rows
 unfolding rows coefficientsReport inputCoefficients valueAddedCoefficients importCoefficients domesticCoefficients domesticDemands productionReport priceReport impliedReport inverseReport absorption inputCoefficient valueAddedCoefficient importCoefficient domesticCoefficient domesticDemand intermediate round rounds changes settling settled impliedDemand unit inverse inverseRounds dispersion
 worked = refl
 
--- Document 01, "Slips the worked table shows up", where no call shows them: the first sector after round 2, the rise of sector 1 after the first
--- round of P7, and the amounts after round 7 of P2, which the next round changes
+-- Theorem, for the reader: document 01, "Slips the worked table shows up", where no call shows them: the first sector after round 2, the rise of sector 1
+-- after the first round of P7, and the amounts after round 7 of P2, which the next round changes
 pub slips :
     _≡_ {A = List ℕ}
     (cell (rounds 2 (at 2 d) f 2) 0 ∷ cell (rounds 2 (transposed (at 2 d)) (10000 ∷ 0 ∷ []) 1) 1 ∷ rounds 2 (at 2 d) f 7)

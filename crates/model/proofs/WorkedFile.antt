@@ -19,6 +19,7 @@ entries =
     ∷ naming 44 0 1000 ∷ naming 44 1 2000
     ∷ []
 
+-- Theorem, for the reader: the worked table as a file, its bytes, and the cells read of it
 pub worked-file :
     (length (fileOf 2 entries) ≡ 91)
     × (reading (fileOf 2 entries) ≡ Reading.table 2 (reverse entries))
@@ -63,6 +64,7 @@ rows =
     ∷ (1 ∷ 2 ∷ 3 ∷ 1 ∷ 0 ∷ 0 ∷ 0 ∷ 0 ∷ 8 ∷ []) ⊳ Reading.table 2 (naming 40 0 0 ∷ [])
     ∷ []
 
+-- Theorem, for the reader: every file above is read as the paper states it
 pub refusals : map (λ (r : Row). reading (r .file)) rows ≡ map (λ (r : Row). r .stated) rows
 unfolding rows wholeAt insideAt entryAt walk reading
 refusals = refl

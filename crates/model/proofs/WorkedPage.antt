@@ -34,6 +34,7 @@ pages =
     ∷ fileOf 1 [] ⊳ bytes "sector demand production value imports\n1 0 0 0 0\nrounds 1\n"
     ∷ []
 
+-- Theorem, for the reader: every file above gives the page that the paper states
 pub worked-pages : map (λ (r : Row). page (r .file)) pages ≡ map (λ (r : Row). r .printed) pages
 unfolding pages
     absorption inputCoefficient valueAddedCoefficient importCoefficient domesticCoefficient domesticDemand

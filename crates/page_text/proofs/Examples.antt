@@ -3,6 +3,7 @@ use mathlib.Core.Path.{_≡_, refl}
 use mathlib.Core.List.{[], _∷_, map}
 use Rattle.model.specs.Text.{digits, decimal, line}
 
+-- Theorem, for the reader: amounts as they are printed
 amounts :
     map decimal (0 ∷ 7 ∷ 10 ∷ 1280 ∷ 18446744073709551615 ∷ [])
     ≡ (48 ∷ [])
@@ -14,7 +15,7 @@ amounts :
 unfolding digits
 amounts = refl
 
--- 2 1280 1999
+-- Theorem, for the reader: a line of three fields, 2 1280 1999
 fields :
     line (map decimal (2 ∷ 1280 ∷ 1999 ∷ []))
     ≡ 50 ∷ 32 ∷ 49 ∷ 50 ∷ 56 ∷ 48 ∷ 32 ∷ 49 ∷ 57 ∷ 57 ∷ 57 ∷ 10 ∷ []

@@ -127,31 +127,6 @@ fn imports_covered(n: usize, x: &[u64], final_demand: &[u64], imports: &[u64]) -
     Answer::Accepted
 }
 
-// Questions 4, 5 and 6.
-fn check_balances(
-    n: usize,
-    x: &[u64],
-    final_demand: &[u64],
-    exports: &[u64],
-    imports: &[u64],
-    value_added: &[u64],
-    production: &[u64],
-) -> Answer
-    requires { ⌜ TableSizes (tableOf n (now x) (now «final_demand» ∷ now exports ∷ now imports ∷ now «value_added» ∷ now production ∷ [])) ⌝ }
-    requires { ⌜ TableAmounts (tableOf n (now x) (now «final_demand» ∷ now exports ∷ now imports ∷ now «value_added» ∷ now production ∷ [])) ⌝ }
-    ensures { λ r. ⌜ report r ≡ verdict (balanceChecks (tableOf n (now (x .entry)) (now («final_demand» .entry) ∷ now (exports .entry) ∷ now (imports .entry) ∷ now («value_added» .entry) ∷ now (production .entry) ∷ []))) [] ⌝ }
-{
-    let columns = columns_balance(n, x, value_added, production);
-    let Answer::Accepted = columns else {
-        return columns;
-    };
-    let rows = rows_balance(n, x, final_demand, exports, imports, production);
-    let Answer::Accepted = rows else {
-        return rows;
-    };
-    imports_covered(n, x, final_demand, imports)
-}
-
 // Questions 3 to 6, of a table whose slices have their lengths.
 pub fn check_contents(
     n: usize,
@@ -179,15 +154,15 @@ pub fn check_contents(
     let Answer::Accepted = amounts else {
         return amounts;
     };
-    check_balances(
-        n,
-        x,
-        final_demand,
-        exports,
-        imports,
-        value_added,
-        production,
-    )
+    let columns = columns_balance(n, x, value_added, production);
+    let Answer::Accepted = columns else {
+        return columns;
+    };
+    let rows = rows_balance(n, x, final_demand, exports, imports, production);
+    let Answer::Accepted = rows else {
+        return rows;
+    };
+    imports_covered(n, x, final_demand, imports)
 }
 
 // Questions 1 to 6. The lengths of the table's own slices are among those of the matrices and of the lent slices.

@@ -104,7 +104,7 @@ accepted-counts (q ∷ qs) ks a = split (ltb place (q .places)) a (accepted-coun
     split false a more = more a
 
 -- checks that refuse refuse whatever follows, with as many counts as the call has
-pub refuse-on : (ps qs : List Check) (ks : List ℕ) (a p : ℕ) → verdict ps [] ≡ refuses 0 a p → verdict (ps ++ qs) ks ≡ refuses (length ks) a p
+refuse-on : (ps qs : List Check) (ks : List ℕ) (a p : ℕ) → verdict ps [] ≡ refuses 0 a p → verdict (ps ++ qs) ks ≡ refuses (length ks) a p
 refuse-on [] qs ks a p e = absurd (false≢true (sym (ap (λ (r : Report). r .accepted) e)))
 refuse-on (q ∷ ps) qs ks a p e = split (ltb place (q .places)) e (refuse-on ps qs ks a p)
   where

@@ -19,7 +19,7 @@ use Rattle.theory.proofs.Lists.{first-before, and-true}
 joined : (a k : ℕ) → a / (k * 256) * 256 + a / k % 256 ≡ a / k
 joined a k = ap (λ (q : ℕ). q * 256 + a / k % 256) (sym (div-div-eq-div-mul a k 256)) ∙ div-add-mod' (a / k) 256
 
-pub amount-back : (a : ℕ) → ((a / 16777216 * 256 + a / 65536 % 256) * 256 + a / 256 % 256) * 256 + a % 256 ≡ a
+amount-back : (a : ℕ) → ((a / 16777216 * 256 + a / 65536 % 256) * 256 + a / 256 % 256) * 256 + a % 256 ≡ a
 amount-back a =
     ap (λ (h : ℕ). (h * 256 + a / 256 % 256) * 256 + a % 256) (joined a 65536)
     ∙ ap (λ (h : ℕ). h * 256 + a % 256) (joined a 256)

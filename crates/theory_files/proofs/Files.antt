@@ -10,9 +10,14 @@ use lib.Dec.{ltb}
 use lib.ListN.{length, length-append}
 use Rattle.model.specs.Numbers.{cell}
 use Rattle.model.specs.Table.{sectorLimit}
-use Rattle.model.specs.File.{Entry, encode, encodeAll, fileOf, wholeAt, Reading, walk, reading}
-use Rattle.theory_files.specs.Files.{Fresh}
+use Rattle.model.specs.File.{Entry, encode, encodeAll, fileOf, wholeAt, namedBefore, Reading, walk, reading}
+use Rattle.theory_files.specs.Files.{Within}
 use Rattle.theory_files.proofs.Encoding.{stands, step}
+
+-- each of a list of cells is one that a table of n sectors has, and none is one of `es` or one before it
+abbrev pub Fresh : ℕ → List Entry → List Entry → Type 0
+Fresh n es [] = Unit {0}
+Fresh n es (e ∷ later) = Within n e × (namedBefore es e ≡ false) × Fresh n (e ∷ es) later
 
 kind-last : (before : List ℕ) (b : ℕ) → cell (before ++ (b ∷ [])) (length before) ≡ b
 kind-last [] b = refl
@@ -57,7 +62,7 @@ bytes-enough (e ∷ es) =
     let parts = length-append (encode e) (encodeAll es) in
     omega arith
 
--- What a writer of files has to know
+-- Theorem, for the reader: a file written of cells that the table has, none of them twice, is read back, the last one first
 pub read-back : (n : ℕ) (es : List Entry) → 1 ≤ n → n ≤ sectorLimit → Fresh n [] es → reading (fileOf n es) ≡ Reading.table n (reverse es)
 unfolding reading fileOf wholeAt
 read-back n es some most f =

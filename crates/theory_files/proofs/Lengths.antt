@@ -33,17 +33,17 @@ sum-lift (suc n) {f} {g} i d h le at-i = go (ltb i n) refl (λ l. sum-lift n {f 
         omega arith
 
 -- ---- the bytes that the named cells take
-abbrev pub indicator : Bool → ℕ
+abbrev indicator : Bool → ℕ
 indicator true = 1
 indicator false = 0
 
-abbrev pub place : ℕ → ℕ → Entry
+abbrev place : ℕ → ℕ → Entry
 place l p = record { word = l; position = p; amount = 0 }
 
 abbrev is : Entry → ℕ → ℕ → Bool
 is e l p = eqb (e .word) l && eqb (e .position) p
 
-abbrev pub count : List Entry → ℕ → ℕ
+abbrev count : List Entry → ℕ → ℕ
 count es l = sum sectorLimit (λ p. indicator (namedBefore es (place l p)))
 
 pub weight : List Entry → ℕ
@@ -137,7 +137,7 @@ walk-length (suc fuel) s n es at most h e =
     let t = taken s at (whole .0) (later .0) going n most (inside .0) in
     walk-length fuel s n (entryAt s at ∷ es) (nextAt s at) most (offset-on s es at most t (fresh .0) h) (fresh .1))
 
--- "No accepted file exceeds 12,643 bytes"
+-- Theorem, for the reader: "No accepted file exceeds 12,643 bytes"
 pub accepted-length : (s : List ℕ) (n : ℕ) (es : List Entry) → reading s ≡ Reading.table n es → length s ≤ fileLimit
 unfolding reading
 accepted-length s n es e =

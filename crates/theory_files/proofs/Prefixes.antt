@@ -114,6 +114,7 @@ prefix-answers k s enough h =
     let size = length-take-le k s h in
     reading-same s (take k s) (λ i low. cell-take k s i (omega arith)) (omega arith) (omega arith)
 
+-- Theorem, for the reader: and it prints the same page
 pub prefix-prints : (k : ℕ) (s : List ℕ) → inputLimit ≤ k → k ≤ length s → page (take k s) ≡ page s
 unfolding page
 prefix-prints k s enough h = ap readingPage (prefix-answers k s enough h)

@@ -32,7 +32,7 @@ use Rattle.theory.proofs.Decimals.{decimal-fits, line-fits}
 use Rattle.theory_files.proofs.Readings.{Answered, reading-answered}
 
 -- ---- a refusal: its number and its place have five digits at most
-pub refusal-fits : (number place : ℕ) → number + place < 100000 → length (refusalLine number place) ≤ pageLimit
+refusal-fits : (number place : ℕ) → number + place < 100000 → length (refusalLine number place) ≤ pageLimit
 unfolding refusalLine
 refusal-fits number place h =
     omega (
@@ -77,25 +77,25 @@ slices-near n place limit (s ∷ ss) qs k c few more =
     slices-near n (place + length s) limit ss qs k (λ i h. c (suc i) (suc-le-suc h)) (omega arith) more)
 
 -- ---- the sheet: 39 bytes, n lines of at most 70, and 12
-pub lines-fit : (n : ℕ) (w : ℕ → List ℕ) (most : ℕ) → ((i : ℕ) → i < n → length (w i) ≤ most) → length (linesTo n w) ≤ n * most
+lines-fit : (n : ℕ) (w : ℕ → List ℕ) (most : ℕ) → ((i : ℕ) → i < n → length (w i) ≤ most) → length (linesTo n w) ≤ n * most
 lines-fit zero w most h = omega arith
 lines-fit (suc n) w most h =
     omega (arith, length-append (linesTo n w) (w n), lines-fit n w most (λ i l. h i (le-step l)), h n (lt-suc-self n))
 
 -- amounts of 13 digits at most, in the first n sectors
-abbrev pub Printable : ℕ → List ℕ → Type 0
+abbrev Printable : ℕ → List ℕ → Type 0
 Printable n xs = (i : ℕ) → i < n → cell xs i < 10 ^ 13
 
-pub sector-fits : (n : ℕ) (f y v m : List ℕ) → n ≤ sectorLimit → Printable n f → Printable n y → Printable n v → Printable n m
+sector-fits : (n : ℕ) (f y v m : List ℕ) → n ≤ sectorLimit → Printable n f → Printable n y → Printable n v → Printable n m
     → (i : ℕ) → i < n → length (sectorLine f y v m i) ≤ 70
 sector-fits n f y v m few pf py pv pm i h =
     line-fits 12 ((i + 1) ∷ cell f i ∷ cell y i ∷ cell v i ∷ cell m i ∷ []) (lit≤ tt)
     (upto (upto (upto (upto (upto (λ k l. absurd (not-suc-le-zero l)) (omega arith)) (pf i h)) (py i h)) (pv i h)) (pm i h))
 
-pub rounds-fits : (k : ℕ) → k ≤ pageBudget → length (roundsLine k) ≤ 12
+rounds-fits : (k : ℕ) → k ≤ pageBudget → length (roundsLine k) ≤ 12
 rounds-fits k h = omega (arith, length-append (decimal k) (10 ∷ []), decimal-fits 3 k (omega arith))
 
-pub sheet-fits : (n : ℕ) (f y v m : List ℕ) (k : ℕ) → n ≤ sectorLimit → Printable n f → Printable n y → Printable n v → Printable n m → k ≤ pageBudget
+sheet-fits : (n : ℕ) (f y v m : List ℕ) (k : ℕ) → n ≤ sectorLimit → Printable n f → Printable n y → Printable n v → Printable n m → k ≤ pageBudget
     → length (sheet n f y v m k) ≤ pageLimit
 unfolding sheet
 sheet-fits n f y v m k few pf py pv pm h =
@@ -245,7 +245,7 @@ reading-fits : (r : Reading) → Answered inputLimit r → length (readingPage r
 reading-fits (Reading.refused number place) p = refusal-fits number place (omega (arith, p .0, p .1))
 reading-fits (Reading.table n es) p = table-fits (tableRead n es) (lit≤ tt) (lit≤ tt)
 
--- No page is longer: a buffer of that length holds every page, whatever the numbers of s
+-- Theorem, for the reader: no page is longer; a buffer of that length holds every page, whatever the numbers of s
 pub page-fits : (s : List ℕ) → length (page s) ≤ pageLimit
 unfolding page
 page-fits s = reading-fits (reading s) (reading-answered s)

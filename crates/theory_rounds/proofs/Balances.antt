@@ -19,8 +19,10 @@ balance-of n c s q b h e =
           ∙ cell-tabulate n (λ i. one * q * cell s i + weighted n (at n c) (cell b) i) i l;
     }
 
+-- Theorem, for the reader: the exact balance of P2
 pub balance-2 : ExactBalance 2 (at 2 d) f 1 (cell (1000 ∷ 2000 ∷ []))
 balance-2 = balance-of 2 d f 1 (1000 ∷ 2000 ∷ []) (le-refl 1) refl
 
+-- Theorem, for the reader: the exact balance of P8
 pub balance-8 : ExactBalance 1 (at 1 (950000 ∷ [])) (1 ∷ []) 1 (cell (20 ∷ []))
 balance-8 = balance-of 1 (950000 ∷ []) (1 ∷ []) 1 (20 ∷ []) (le-refl 1) refl

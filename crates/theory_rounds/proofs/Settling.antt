@@ -17,11 +17,11 @@ module _ (n : ℕ) (c : ℕ → ℕ → ℕ) (s : List ℕ) where
   unfolding changes
   none-yet = upto (λ j h. absurd (not-suc-le-zero h)) refl
 
-  -- a count is at least 1
+  -- Theorem, for the reader: a count is at least 1
   pub at-least-one : {k : ℕ} {y : List ℕ} → Settles n c s k y → 1 ≤ k
   at-least-one {k} σ = lt-of-not-le (λ h. true≢false (sym (none-yet k (suc-le-suc h)) ∙ σ .unchanged))
 
-  -- the settling index is one, so any two counts and any two results are the same
+  -- Theorem, for the reader: the settling index is one, so any two counts and any two results are the same
   pub settles-once : {k m : ℕ} {y z : List ℕ} → Settles n c s k y → Settles n c s m z → (k ≡ m) × (y ≡ z)
   settles-once {k} {m} {y} {z} σ τ = (e, σ .amounts ∙ ap (rounds n c s) e ∙ sym (τ .amounts))
     where
@@ -43,7 +43,7 @@ module _ (n : ℕ) (c : ℕ → ℕ → ℕ) (s : List ℕ) where
           amounts = refl;
         }
 
-    -- a count past the budget: no round within the budget settles
+    -- Theorem, for the reader: where the count is past the budget no round within the budget settles
     pub not-settled : budget < settling n c s budget → All (changes n c s) (suc budget)
     unfolding settling
     not-settled h k l = first-before (suc budget) (changes n c s) k (omega arith)

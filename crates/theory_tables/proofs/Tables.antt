@@ -8,12 +8,12 @@ use native.Mathlib.Omega.{arith}
 use borrow.Author.Tests.{leb-true, eqb-true, ltb-true, ltb-false}
 use lib.Dec.{ltb}
 use lib.ListN.{length, getD, List·getD-eq-default}
-use Rattle.model.specs.Numbers.{one, tabulate, cell, at, matrix, transposed}
+use Rattle.model.specs.Numbers.{one, sum, tabulate, cell, at, matrix, transposed}
 use Rattle.model.specs.Table.{Table, finalDemand, exports, imports, valueAdded, production, flow, need, portion, inputCoefficient, valueAddedCoefficient, importCoefficient, domesticCoefficient, domesticDemand}
 use Rattle.model.specs.Checks.{size, lengths, bounded, countedOn, amountLimit, demandLimit, tableAmounts, balanceChecks}
 use Rattle.model.specs.Calls.{tableChecks, inputCoefficients, importCoefficients, domesticCoefficients, domesticDemands}
 use Rattle.theory.specs.Slices.{Each, Columns}
-use Rattle.theory_tables.specs.Tables.{TableSizes, TableAmounts, Balanced}
+use Rattle.theory_tables.specs.Tables.{TableSizes, TableAmounts}
 use Rattle.theory.proofs.Lists.{cell-tabulate, tabulate-cong}
 use Rattle.theory.proofs.Sums.{sum-cell}
 use Rattle.theory.proofs.Matrices.{place-row, place-column, place-cell}
@@ -46,7 +46,7 @@ bounded-cell place limit s p k = split (ltb k (length s)) refl
     split true e = leb-true (cell s k) limit (p k (ltb-true k (length s) e))
     split false e = rw (List·getD-eq-default s 0 (ltb-false k (length s) e)) zero-le
 
-pub counted-cell : (place limit : ℕ) (ss : List (List ℕ)) → AllPass (countedOn place (map (bounded 3 0 limit) ss)) → (c k : ℕ) → cell (getD ss c []) k ≤ limit
+counted-cell : (place limit : ℕ) (ss : List (List ℕ)) → AllPass (countedOn place (map (bounded 3 0 limit) ss)) → (c k : ℕ) → cell (getD ss c []) k ≤ limit
 counted-cell place limit [] p c k = zero-le
 counted-cell place limit (s ∷ ss) p zero k = bounded-cell place limit s (p .0) k
 counted-cell place limit (s ∷ ss) p (suc c) k = counted-cell (place + length s) limit ss (p .1) c k
@@ -56,7 +56,13 @@ table-amounts t p =
     let small = counted-cell 0 amountLimit (t .flows ∷ t .columns) p in
     record { flows = small 0; columns = λ c. small (suc c) }
 
-pub balanced : (t : Table) → AllPass (balanceChecks t) → Balanced t
+-- questions 4, 5 and 6 pass
+pub record Balanced (t : Table) : Type 0 where
+  pub columns : (j : ℕ) → j < t .sectors → sum (t .sectors) (transposed (flow t) j) + cell (valueAdded t) j ≡ cell (production t) j
+  pub rows : (i : ℕ) → i < t .sectors → need t i + cell (exports t) i ≡ cell (production t) i + cell (imports t) i
+  pub covered : (i : ℕ) → i < t .sectors → cell (imports t) i ≤ need t i
+
+balanced : (t : Table) → AllPass (balanceChecks t) → Balanced t
 balanced t (c, (r, (m, _))) =
     record {
       columns = λ j h. eqb-true _ _ (c j h);
