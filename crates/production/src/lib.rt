@@ -32,9 +32,9 @@ fn check_start(
 {
     let lent = [start.len(), out_len, work_len];
     let matrix = check_domestic(n, d, &lent);
-    if let Answer::Refused { number, place } = matrix {
-        return Answer::Refused { number, place };
-    }
+    let Answer::Accepted = matrix else {
+        return matrix;
+    };
     cells_within(8, 0, limit, start)
 }
 

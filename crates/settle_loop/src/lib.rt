@@ -76,9 +76,9 @@ pub fn settle(
     copy_cells(start, out);
     let outcome = run_rows(n, d, start, budget, out, work);
     fill_zero(work);
-    if let Outcome::Refused { number, place } = outcome {
+    let Outcome::Settled { rounds: _ } = outcome else {
         fill_zero(out);
-        return Outcome::Refused { number, place };
-    }
+        return outcome;
+    };
     outcome
 }

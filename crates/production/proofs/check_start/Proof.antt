@@ -6,7 +6,7 @@ use borrow.Author.Needs.{needs}
 use lib.ListN.{length}
 use Rattle.model.specs.Checks.{Check, bounded}
 use Rattle.model.specs.Calls.{matrixChecks}
-use Rattle.theory.proofs.Verdicts.{answered-on, answered-stop}
+use Rattle.theory.proofs.Verdicts.{answered-on, answered-end}
 use Rattle.production.proofs.check_start.Statement.{statement}
 use Rattle.production.proofs.check_start.Tie as tie
 
@@ -25,8 +25,8 @@ last q = let a = entry q .args in bounded 8 0 (a .limit) (a .start .now) ∷ []
 
 returns : tie.Need-returns
 returns c =
-    let q = c .before .before .before in
-    record { answer = answered-stop (asked q) (q .check-domestic .ensures) (last q) [] (c .before .matrix .given .1) }
+    let q = c .before .before in
+    record { answer = answered-end (asked q) (q .check-domestic .ensures) (last q) (c .enum-told2 .given .1) }
 
 returns-2 : tie.Need-returns-2
 returns-2 c =
@@ -37,5 +37,5 @@ pub check-start-spec : {M : Type 1} → statement M
 check-start-spec =
     tie.close
     (tie.spec
-    (λ c. search needs) (λ c κs. search needs) (λ c. search needs) returns (λ c. search needs)
+    (λ c. search needs) (λ c κs. search needs) (λ c. search needs) (λ c. search needs) returns
     (λ c κs. search needs) returns-2)

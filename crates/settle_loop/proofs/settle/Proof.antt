@@ -40,12 +40,13 @@ amounts q e =
 
 returns : tie.Need-returns
 returns c =
-    let f = c .before .before .before .before .before .before .before .before .before in
+    let k = c .before .before .before .before in
+    let f = k .before .before .before .before in
     let q = searched f in
-    let e = c .before .before .before .before .before .outcome .given .1 in
+    let t = ap (λ (o : Outcome). reportRounds o .accepted) (k .enum-told2 .given .1) in
     record {
-      answer = sym (ap reportRounds e) ∙ q .run-rows .ensures .0;
-      outputs = c .before .before .fill-zero2 .ensures ∙ ap (λ (k : ℕ). replicate k 0) (out-length q);
+      answer = q .run-rows .ensures .0;
+      outputs = rw t (c .before .before .fill-zero2 .ensures ∙ ap (λ (k : ℕ). replicate k 0) (out-length q));
       cleared = zeros f;
     }
 
@@ -60,6 +61,6 @@ pub settle-spec : {M : Type 1} → statement M
 settle-spec =
     tie.close
     (tie.spec
-    (λ c κs. search needs) (λ c κs. search needs) (λ c κs. search needs) (λ c. search needs) (λ c κs. search needs)
-    (λ c. search needs) (λ c. search needs) returns (λ c. search needs) (λ c. search needs) (λ c. search needs)
+    (λ c κs. search needs) (λ c κs. search needs) (λ c κs. search needs) (λ c. search needs) (λ c. search needs)
+    (λ c κs. search needs) (λ c. search needs) (λ c. search needs) returns (λ c. search needs) (λ c. search needs)
     returns-2)
