@@ -6,11 +6,11 @@ use native.Mathlib.Nat.{mul-le-mul, mul-le-mul-right, suc-mul}
 use native.Mathlib.Omega.{arith}
 use borrow.Author.Tests.{leb-true, eqb-true, ltb-true}
 use lib.Dec.{leb, ltb, eqb}
-use Rattle.model.specs.Table.{sectorLimit}
+use Rattle.model.specs.Table.{sectorLimit, sheetLimit}
 use Rattle.theory.proofs.Lists.{and-true}
 
 pub record Row (n cells sector : ℕ) : Type 0 where
-  pub small : n * n ≤ 1600
+  pub small : n * n ≤ sheetLimit
   pub whole : n * n ≡ cells
   pub within : sector * n + n ≤ n * n
 

@@ -1,7 +1,7 @@
 -- How far settled amounts are from an exact balance, and how large a round can be: for any gauge. Assumes nothing.
 use mathlib.Core.Path.{sym, ap, subst⁻¹}
 use mathlib.Core.List.{List}
-use Prim.Native.Nat.{ℕ, zero, suc, _+_, _*_, _≤_, _<_}
+use Prim.Native.Nat.{ℕ, zero, suc, _+_, _*_, _-_, _≤_, _<_}
 use native.Mathlib.Omega.{arith}
 use native.Mathlib.Nat.{mul-le-mul-left, mul-pos, sub-add-cancel}
 use Rattle.model.specs.Numbers.{one, cell}
@@ -20,12 +20,12 @@ module _ (n : ℕ) (c : ℕ → ℕ → ℕ) where
     lacks-less some {s} {y} {q} {k} {b} β σ =
         omega (
           arith,
-          bounded n c N u γ (λ i. q * 999999) (shortfall q b y) passed,
-          γ .flat (q * 999999),
+          bounded n c N u γ (λ i. q * (one - 1)) (shortfall q b y) passed,
+          γ .flat (q * (one - 1)),
           mul-pos some (β .divisor),
         )
       where
-        passed : (i : ℕ) → i < n → one * shortfall q b y i ≤ q * 999999 + weighted n c (shortfall q b y) i
+        passed : (i : ℕ) → i < n → one * shortfall q b y i ≤ q * (one - 1) + weighted n c (shortfall q b y) i
         passed i h =
             omega (
               arith,

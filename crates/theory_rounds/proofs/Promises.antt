@@ -3,12 +3,13 @@
 use mathlib.Core.Path.{_≡_, refl, sym, ap, _∙_}
 use mathlib.Core.Bool.{Bool, true, false}
 use mathlib.Core.List.{List, [], _∷_}
-use Prim.Native.Nat.{ℕ, suc, _≤_, _<_}
+use Prim.Native.Nat.{ℕ, suc, _*_, _≤_, _<_}
 use native.Mathlib.Omega.{arith}
 use native.Mathlib.Nat.{le-refl, le-trans}
 use borrow.Author.Tests.{le-leb, eq-eqb}
 use lib.ListN.{length, replicate}
 use Rattle.model.specs.Numbers.{sum, largest, at, cell, transposed, oriented}
+use Rattle.model.specs.Table.{sectorLimit}
 use Rattle.model.specs.Rounds.{weighted, intermediate, rounds, Settles, shortfall, settling, settled, impliedDemand}
 use Rattle.model.specs.Checks.{Report, accepts, roundsOf, output, demandLimit, riseLimit, productionLimit, productionTotal, demandLeft}
 use Rattle.model.specs.Calls.{matrixChecks, productionReport, priceReport, impliedReport}
@@ -46,7 +47,7 @@ module _ {n : ℕ} {d : List ℕ} (A : AcceptedMatrix n d) where
 
   -- ---- no sum of a round leaves 64 bits
   module _ (s : List ℕ) (small : (i : ℕ) → i < n → cell s i ≤ demandLimit) where
-    total-small : sum n (cell s) ≤ 80000000000
+    total-small : sum n (cell s) ≤ sectorLimit * demandLimit
     total-small = let few = A .few in omega (arith, sum-mono n small, sum-const n demandLimit)
 
     production-fits : (k i : ℕ) → i < n → weighted n (at n d) (cell (rounds n (at n d) s k)) i ≤ sumLimit

@@ -47,7 +47,7 @@ module _ (n : ℕ) (c : ℕ → ℕ → ℕ) where
   intermediate-within f i = omega arith
 
   -- rounding down once loses less than one
-  pub intermediate-lost : (f : ℕ → ℕ) (i : ℕ) → weighted n c f i ≤ one * intermediate n c f i + 999999
+  pub intermediate-lost : (f : ℕ → ℕ) (i : ℕ) → weighted n c f i ≤ one * intermediate n c f i + (one - 1)
   unfolding intermediate
   intermediate-lost f i = omega arith
 

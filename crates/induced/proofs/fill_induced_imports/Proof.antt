@@ -6,7 +6,7 @@ use native.Mathlib.Omega.{arith}
 use Rattle.model.specs.Numbers.{one, at, cell}
 use Rattle.model.specs.Table.{portion}
 use Rattle.model.specs.Rounds.{weighted, intermediate, inducedImports}
-use Rattle.model.specs.Checks.{productionLimit}
+use Rattle.model.specs.Checks.{productionLimit, amountLimit}
 use Rattle.theory.proofs.Sums.{cell-in}
 use Rattle.theory.proofs.Lists.{Front, front-none, front-set, front-done}
 use Rattle.theory_rounds.proofs.Rounds.{weighted-shares, intermediate-within}
@@ -39,7 +39,7 @@ fits c =
 needed :
     (q : tie.After-intermediate-use Inv-loop μ-loop) →
     let a = entry (q .before .before) .args in
-    (q .intermediate-use .result ≤ productionLimit) × (cell (a .final-demand .now) (q .before .before .loop .i) ≤ 1000000000)
+    (q .intermediate-use .result ≤ productionLimit) × (cell (a .final-demand .now) (q .before .before .loop .i) ≤ amountLimit)
 needed q =
     let s = entry (q .before .before) in
     let a = s .args in

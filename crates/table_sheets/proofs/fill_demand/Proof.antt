@@ -23,7 +23,7 @@ portion-of-requires : tie.Need-portion-of-requires Inv-loop μ-loop
 portion-of-requires c κs =
     let p = c .before .before .before in
     let s = entry p in
-    let rest = sub-le 1000000 (cell (s .args .m .now) (p .loop .i)) in
+    let rest = sub-le one (cell (s .args .m .now) (p .loop .i)) in
     omega (arith, mul-le-mul rest (s .pre .1 .1 (p .loop .i) .0))
 
 add-f : tie.Need-add-f Inv-loop μ-loop

@@ -30,7 +30,7 @@ in-column c = let s = entry (c .before) in (place-row (s .args .n) (c .before .l
 in-slice : (c : tie.In-loop Inv-loop μ-loop) → let a = entry (c .before) .args in c .before .loop .k / a .n < length (a .m .now)
 in-slice c = let e = entry (c .before) .pre .0 .3 in omega (arith, in-column c .0)
 
-share-small : (c : tie.In-loop Inv-loop μ-loop) → let a = entry (c .before) .args in cell (a .m .now) (c .before .loop .k / a .n) ≤ 1000000
+share-small : (c : tie.In-loop Inv-loop μ-loop) → let a = entry (c .before) .args in cell (a .m .now) (c .before .loop .k / a .n) ≤ one
 share-small c = let s = entry (c .before) in s .pre .1 .1 (c .before .loop .k / s .args .n) (in-column c .0)
 
 mul-cells : tie.Need-mul-cells Inv-loop μ-loop
@@ -40,7 +40,7 @@ portion-of-requires : tie.Need-portion-of-requires Inv-loop μ-loop
 portion-of-requires c κs =
     let p = c .before .before .before in
     let s = entry p in
-    let rest = sub-le 1000000 (cell (s .args .m .now) (p .loop .k / s .args .n)) in
+    let rest = sub-le one (cell (s .args .m .now) (p .loop .k / s .args .n)) in
     omega (arith, mul-le-mul rest (s .pre .1 .0 (p .loop .k) (c .before .before .loop-test .taken)))
 
 loop-again : tie.Need-loop-again Inv-loop μ-loop
