@@ -5,7 +5,7 @@ use mathlib.Core.List.{List, [], _∷_, _++_}
 use Prim.Native.Nat.{ℕ, _+_, _*_, _≤_, _<_}
 use native.Mathlib.Nat.{le-refl, lt-of-lt-of-le, zero-add}
 use borrow.Author.Tests.{lt-ltb, le-ltb, ltb-false, le-leb, leb-true, eq-eqb}
-use lib.Dec.{ltb, leb, eqb}
+use lib.Dec.{ltb, eqb}
 use lib.ListN.{length, replicate}
 use Rattle.model.specs.Numbers.{sum, first, all, at, transposed}
 use Rattle.model.specs.Table.{sectorLimit}
@@ -15,7 +15,7 @@ use Rattle.model.specs.declared.Answer.{Answer}
 use Rattle.model.specs.declared.Answer.the-variants.{Accepted, Refused}
 use Rattle.model.specs.Promises.{AcceptedMatrix}
 use Rattle.theory.specs.Slices.{Each}
-use Rattle.theory.proofs.Lists.{All, all-none, first-here, first-none, first-before, and-true, each-equal}
+use Rattle.theory.proofs.Lists.{All, all-none, first-here, first-none, first-before, and-true, from-one, each-equal}
 
 -- a check passes at all its places, and all checks of a list do
 abbrev pub Passes : Check → Type 0
@@ -142,9 +142,9 @@ pub record Sized (n : ℕ) (matrices lent : List ℕ) : Type 0 where
 module _ (n : ℕ) (matrices lent : List ℕ) where
   pub sized : Passes (size n) → Passes (lengths n matrices lent) → Sized n matrices lent
   sized p q =
-      let s = and-true (leb 1 n) (leb n sectorLimit) (p 0 (le-refl 1)) in
+      let s = from-one n sectorLimit (p 0 (le-refl 1)) in
       let l = and-true (all (eqb (n * n)) matrices) (all (eqb n) lent) (q 0 (le-refl 1)) in
-      record { some = leb-true 1 n (s .0); few = leb-true n sectorLimit (s .1); squares = each-equal (n * n) matrices (l .0); slices = each-equal n lent (l .1) }
+      record { some = s .0; few = s .1; squares = each-equal (n * n) matrices (l .0); slices = each-equal n lent (l .1) }
 
   pub size-passes : 1 ≤ n → n ≤ sectorLimit → Passes (size n)
   size-passes h l = λ _ _. rw (le-leb 1 n h) (le-leb n sectorLimit l)
