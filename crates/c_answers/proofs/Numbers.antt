@@ -9,7 +9,7 @@ use borrow.Author.Tests.{ne-eqb, leb-true}
 use lib.Dec.{eqb, leb, ltb}
 use lib.ListN.{length}
 use Rattle.model.specs.Numbers.{at, cell, first, transposed}
-use Rattle.model.specs.Table.{Table, sectorLimit}
+use Rattle.model.specs.Table.{Table, fewSectors}
 use Rattle.model.specs.Rounds.{settling, inverseRounds}
 use Rattle.model.specs.Checks.{Report, reportRead, reportTold, Check, amountLimit, balanceChecks, countedOn, bounded, refuses, verdict, columnSums, columnsSettle, demandLeft, demandLimit, inducedAmounts, lengths, productionTotal, riseLimit, single, size}
 use Rattle.model.specs.Calls.{coefficientsReport, domesticCoefficients, impliedReport, inducedReport, inverseReport, matrixChecks, priceReport, productionReport, settlingChecks, tableChecks}
@@ -109,7 +109,7 @@ pub read-number : (x : ℕ) (columns : List ℕ) (marks : ℕ) (s : List ℕ) �
 unfolding called reading
 read-number x columns marks s =
     let n = cell s 1 in
-    let sized = either (eqb (kindAt s 0) 1 && (leb 1 n && leb n sectorLimit)) (walk-number (length s) s n [] 2) (refusal 12 0 (omega arith)) in
+    let sized = either (eqb (kindAt s 0) 1 && fewSectors n) (walk-number (length s) s n [] 2) (refusal 12 0 (omega arith)) in
     let whole = either (wholeAt s 0) sized (refusal 11 0 (omega arith)) in
     either (fits x columns marks) (either (eqb (length s) 0) (refusal 15 0 (omega arith)) whole) (refusal 2 0 (omega arith))
 

@@ -1,49 +1,25 @@
 -- Question 2, and the parts of the reader's cells in the lent slices. Assumes nothing.
 use mathlib.Core.Bool.{Bool, true, false, _&&_}
-use mathlib.Core.List.{List, [], _∷_}
+use mathlib.Core.List.{List}
 use mathlib.Core.Logic.{_⊎_, inl, inr}
 use mathlib.Core.Path.{_≡_, refl, sym, ap, _∙_}
-use Prim.Native.Nat.{ℕ, _*_, _≤_, _<_}
+use Prim.Native.Nat.{ℕ, _*_, _<_}
 use native.Mathlib.Decide.{ℕ-discrete}
+use native.Mathlib.Nat.{le-add-right}
 use borrow.Author.Tests.{eqb-true}
 use lib.Dec.{eqb}
 use lib.ListN.{take, drop, replicate}
 use Rattle.model.specs.Numbers.{all}
 use Rattle.model.specs.Table.{sectorLimit, sheetLimit}
-use Rattle.model.specs.File.{Reading, reading, fits, called, flowsRead, columnRead, wordLimit}
-use Rattle.theory.proofs.Lists.{and-true}
+use Rattle.model.specs.File.{Reading, reading, fits, called, flowsRead, columnRead, columnWord, wordLimit}
+use Rattle.theory.specs.Slices.{Each}
+use Rattle.theory.proofs.Lists.{and-true, each-equal}
 use Rattle.file_walk.specs.Steps.{Held}
 use Rattle.file_reader.specs.Reader.{Put}
 
-pub record Fit (x f e m v p r : ℕ) : Type 0 where
-  pub flows : x ≡ sheetLimit
-  pub finalDemand : f ≡ sectorLimit
-  pub exports : e ≡ sectorLimit
-  pub imports : m ≡ sectorLimit
-  pub valueAdded : v ≡ sectorLimit
-  pub production : p ≡ sectorLimit
-  pub rises : r ≡ sectorLimit
-
-fit : (x f e m v p r k : ℕ) → fits x (f ∷ e ∷ m ∷ v ∷ p ∷ r ∷ []) k ≡ true → Fit x f e m v p r
-fit x f e m v p r k q =
-    let c : List ℕ = f ∷ e ∷ m ∷ v ∷ p ∷ r ∷ [] in
-    let a = and-true (eqb sheetLimit x && all (eqb sectorLimit) c) (eqb wordLimit k) q in
-    let b = and-true (eqb sheetLimit x) (all (eqb sectorLimit) c) (a .0) in
-    let f' = and-true (eqb sectorLimit f) (all (eqb sectorLimit) (e ∷ m ∷ v ∷ p ∷ r ∷ [])) (b .1) in
-    let e' = and-true (eqb sectorLimit e) (all (eqb sectorLimit) (m ∷ v ∷ p ∷ r ∷ [])) (f' .1) in
-    let m' = and-true (eqb sectorLimit m) (all (eqb sectorLimit) (v ∷ p ∷ r ∷ [])) (e' .1) in
-    let v' = and-true (eqb sectorLimit v) (all (eqb sectorLimit) (p ∷ r ∷ [])) (m' .1) in
-    let p' = and-true (eqb sectorLimit p) (all (eqb sectorLimit) (r ∷ [])) (v' .1) in
-    let r' = and-true (eqb sectorLimit r) true (p' .1) in
-    record {
-      flows = sym (eqb-true sheetLimit x (b .0));
-      finalDemand = sym (eqb-true sectorLimit f (f' .0));
-      exports = sym (eqb-true sectorLimit e (e' .0));
-      imports = sym (eqb-true sectorLimit m (m' .0));
-      valueAdded = sym (eqb-true sectorLimit v (v' .0));
-      production = sym (eqb-true sectorLimit p (p' .0));
-      rises = sym (eqb-true sectorLimit r (r' .0));
-    }
+-- the slices have the lengths that are asked for
+abbrev pub Fit : ℕ → List ℕ → Type 0
+Fit x columns = (x ≡ sheetLimit) × Each sectorLimit columns
 
 module _ (x : ℕ) (columns : List ℕ) (k : ℕ) (s : List ℕ) where
   pub called-fit : fits x columns k ≡ true → reading s ≡ called x columns k s
@@ -54,16 +30,19 @@ module _ (x : ℕ) (columns : List ℕ) (k : ℕ) (s : List ℕ) where
   unfolding called
   called-unfit e = rw e refl
 
-pub fit-words : (x : ℕ) (columns : List ℕ) (k : ℕ) → fits x columns k ≡ true → k ≡ wordLimit
-fit-words x columns k q = sym (eqb-true wordLimit k (and-true (eqb sheetLimit x && all (eqb sectorLimit) columns) (eqb wordLimit k) q .1))
+pub fit : (x : ℕ) (columns : List ℕ) (k : ℕ) → fits x columns k ≡ true → Fit x columns × (k ≡ wordLimit)
+fit x columns k q =
+    let a = and-true (eqb sheetLimit x && all (eqb sectorLimit) columns) (eqb wordLimit k) q in
+    let b = and-true (eqb sheetLimit x) (all (eqb sectorLimit) columns) (a .0) in
+    ((sym (eqb-true sheetLimit x (b .0)), each-equal sectorLimit columns (b .1)), sym (eqb-true wordLimit k (a .1)))
 
--- either the slices have the lengths that are asked for, or nothing is read
-pub fit-or-not : (x f e m v p r k : ℕ) (s : List ℕ) (o : Reading) → o ≡ called x (f ∷ e ∷ m ∷ v ∷ p ∷ r ∷ []) k s → Fit x f e m v p r ⊎ (o ≡ Reading.refused 2 0)
-fit-or-not x f e m v p r k s o z = go (fits x (f ∷ e ∷ m ∷ v ∷ p ∷ r ∷ []) k) refl
+-- either they have, or nothing is read
+pub fit-or-not : (x : ℕ) (columns : List ℕ) (k : ℕ) (s : List ℕ) (o : Reading) → o ≡ called x columns k s → Fit x columns ⊎ (o ≡ Reading.refused 2 0)
+fit-or-not x columns k s o z = go (fits x columns k) refl
   where
-    go : (b : Bool) → fits x (f ∷ e ∷ m ∷ v ∷ p ∷ r ∷ []) k ≡ b → Fit x f e m v p r ⊎ (o ≡ Reading.refused 2 0)
-    go true q = inl (fit x f e m v p r k q)
-    go false q = inr (z ∙ sym (called-unfit x (f ∷ e ∷ m ∷ v ∷ p ∷ r ∷ []) k s q))
+    go : (b : Bool) → fits x columns k ≡ b → Fit x columns ⊎ (o ≡ Reading.refused 2 0)
+    go true q = inl (fit x columns k q .0)
+    go false q = inr (z ∙ sym (called-unfit x columns k s q))
 
 pub either : {A B C : Type 0} → (A → B) → A ⊎ C → B ⊎ C
 either f (inl a) = inl (f a)
@@ -83,5 +62,6 @@ module _ (o : Reading) (cells : List ℕ) (h : Held o cells) where
   pub put-flows : (len : ℕ) (out : List ℕ) → (len ≡ sheetLimit) ⊎ (o ≡ Reading.refused 2 0) → Put cells 0 sheetLimit len out → out ≡ flowsRead len o
   put-flows = put flowsRead (λ len q p. refl) 0 sheetLimit (h .flows)
 
-  pub put-column : (c : ℕ) → sectorLimit ≤ c → c < wordLimit → (len : ℕ) (out : List ℕ) → (len ≡ sectorLimit) ⊎ (o ≡ Reading.refused 2 0) → Put cells (c * sectorLimit) sectorLimit len out → out ≡ columnRead c len o
-  put-column c lo hi = put (columnRead c) (λ len q p. refl) (c * sectorLimit) sectorLimit (h .columns c lo hi)
+  pub put-column : (c : ℕ) → columnWord c < wordLimit → (len : ℕ) (out : List ℕ) → (len ≡ sectorLimit) ⊎ (o ≡ Reading.refused 2 0)
+      → Put cells (columnWord c * sectorLimit) sectorLimit len out → out ≡ columnRead (columnWord c) len o
+  put-column c known = put (columnRead (columnWord c)) (λ len q p. refl) (columnWord c * sectorLimit) sectorLimit (h .columns (columnWord c) (le-add-right sectorLimit c) known)

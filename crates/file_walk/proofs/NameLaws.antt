@@ -8,7 +8,7 @@ use borrow.Author.Tests.{ne-eqb}
 use lib.ListN.{length}
 use Rattle.model.specs.Numbers.{cell}
 use Rattle.model.specs.Table.{sectorLimit}
-use Rattle.model.specs.File.{recordLengths, kindAt, isFlow, nextAt, insideAt, entryAt}
+use Rattle.model.specs.File.{recordLengths, kindAt, isFlow, insideAt, entryAt}
 use Rattle.theory_files.proofs.RecordKinds.{Taken, body, record-size, taken}
 use Rattle.file_records.specs.Bodies.{Body}
 use Rattle.file_walk.specs.Steps.{Begun, Naming, Names}

@@ -8,8 +8,8 @@ use native.Mathlib.Decide.{decLt}
 use native.Mathlib.Numerals.{add-one}
 use native.Mathlib.Omega.{arith}
 use borrow.Author.Count.{below-more}
-use borrow.Author.Tests.{eqb-true}
-use lib.Dec.{eqb}
+use borrow.Author.Tests.{leb-true, eqb-true}
+use lib.Dec.{eqb, leb}
 use lib.ListN.{length, set, replicate, take, length-set, length-replicate, getD-replicate, List·getD-eq-default}
 use lib.Seq.{ext-getD, getD-set-same, getD-set-other, length-take-le, getD-take}
 use Rattle.model.specs.Numbers.{first, all, tabulate, cell, same}
@@ -144,6 +144,10 @@ first-fails (suc n) p h = split (p 0) refl h (first-fails n (λ i. p (suc i)))
 pub and-true : (a b : Bool) → a && b ≡ true → (a ≡ true) × (b ≡ true)
 and-true true b e = (refl, e)
 and-true false b e = absurd (false≢true e)
+
+-- a number that is from 1 to n
+pub from-one : (k n : ℕ) → leb 1 k && leb k n ≡ true → (1 ≤ k) × (k ≤ n)
+from-one k n e = let p = and-true (leb 1 k) (leb k n) e in (leb-true 1 k (p .0), leb-true k n (p .1))
 
 and-last-false : (b : Bool) → b && false ≡ false
 and-last-false true = refl

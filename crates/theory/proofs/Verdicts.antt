@@ -2,20 +2,21 @@
 use mathlib.Core.Path.{_≡_, refl, sym, _∙_, ap, ap₂}
 use mathlib.Core.Bool.{Bool, true, false, cond, false≢true}
 use mathlib.Core.List.{List, [], _∷_, _++_}
-use Prim.Native.Nat.{ℕ, _+_, _*_, _≤_, _<_}
+use Prim.Native.Nat.{ℕ, _+_, _*_, _≤_, _<_, zero-le}
 use native.Mathlib.Nat.{le-refl, lt-of-lt-of-le, zero-add}
+use native.Mathlib.Numerals.{add-one}
 use borrow.Author.Tests.{lt-ltb, le-ltb, ltb-false, le-leb, leb-true, eq-eqb}
-use lib.Dec.{ltb, leb, eqb}
+use lib.Dec.{ltb, eqb}
 use lib.ListN.{length, replicate}
 use Rattle.model.specs.Numbers.{sum, first, all, at, transposed}
 use Rattle.model.specs.Table.{sectorLimit}
-use Rattle.model.specs.Checks.{Report, Check, refuses, report, verdict, output, each, single, size, lengths, bounded, countedOn, columnLimit}
+use Rattle.model.specs.Checks.{Report, Check, accepts, refuses, report, verdict, output, each, single, size, lengths, bounded, countedOn, columnLimit}
 use Rattle.model.specs.Calls.{matrixChecks}
 use Rattle.model.specs.declared.Answer.{Answer}
 use Rattle.model.specs.declared.Answer.the-variants.{Accepted, Refused}
 use Rattle.model.specs.Promises.{AcceptedMatrix}
 use Rattle.theory.specs.Slices.{Each}
-use Rattle.theory.proofs.Lists.{All, all-none, first-here, first-none, first-before, and-true, each-equal}
+use Rattle.theory.proofs.Lists.{All, all-none, all-more, first-here, first-none, first-before, and-true, from-one, each-equal}
 
 -- a check passes at all its places, and all checks of a list do
 abbrev pub Passes : Check → Type 0
@@ -46,6 +47,28 @@ module _ (number : ℕ) {b : Bool} (qs : List Check) (ks : List ℕ) where
 
   pub single-failed : b ≡ false → verdict (single number b ∷ qs) ks ≡ refuses (length ks) number 0
   single-failed e = failed (single number b) qs ks 0 (le-refl 1) (all-none (λ _. b)) e
+
+-- ---- a loop that asks a check place by place, from i = 0: nothing asked yet, one place more, and the ways out
+pub record Scan (q : Check) (i : ℕ) : Type 0 where
+  pub within : i ≤ q .places
+  pub before : All (q .passes) i
+
+pub scan-none : {q : Check} → Scan q 0
+scan-none {q} = record { within = zero-le; before = all-none (q .passes) }
+
+module _ {q : Check} {i : ℕ} (s : Scan q i) where
+  pub scan-more : i < q .places → q .passes i ≡ true → Scan q (i + 1)
+  scan-more h e = record { within = rw add-one h; before = all-more (q .passes) i (s .before) e }
+
+  pub scan-failed : i < q .places → q .passes i ≡ false → refuses 0 (q .number) (q .offset + i) ≡ verdict (q ∷ []) []
+  scan-failed h e = sym (failed q [] [] i h (s .before) e)
+
+  pub scan-passed : q .places ≤ i → accepts [] ≡ verdict (q ∷ []) []
+  scan-passed h = sym (passed q [] [] i h (s .before))
+
+-- and one whose places count from 0
+pub scan-failed-each : {number n : ℕ} {p : ℕ → Bool} {i : ℕ} → Scan (each number n p) i → i < n → p i ≡ false → refuses 0 number i ≡ verdict (each number n p ∷ []) []
+scan-failed-each {number} {n} {p} {i} s h e = sym (failed-each number n p [] [] i h (s .before) e)
 
 -- slices that are counted on from 0: the second begins at the length of the first
 pub counted-first : (limit : ℕ) (s : List ℕ) (qs : List Check) → bounded 3 0 limit s ∷ countedOn (length s) qs ≡ countedOn 0 (bounded 3 0 limit s ∷ qs)
@@ -142,9 +165,9 @@ pub record Sized (n : ℕ) (matrices lent : List ℕ) : Type 0 where
 module _ (n : ℕ) (matrices lent : List ℕ) where
   pub sized : Passes (size n) → Passes (lengths n matrices lent) → Sized n matrices lent
   sized p q =
-      let s = and-true (leb 1 n) (leb n sectorLimit) (p 0 (le-refl 1)) in
+      let s = from-one n sectorLimit (p 0 (le-refl 1)) in
       let l = and-true (all (eqb (n * n)) matrices) (all (eqb n) lent) (q 0 (le-refl 1)) in
-      record { some = leb-true 1 n (s .0); few = leb-true n sectorLimit (s .1); squares = each-equal (n * n) matrices (l .0); slices = each-equal n lent (l .1) }
+      record { some = s .0; few = s .1; squares = each-equal (n * n) matrices (l .0); slices = each-equal n lent (l .1) }
 
   pub size-passes : 1 ≤ n → n ≤ sectorLimit → Passes (size n)
   size-passes h l = λ _ _. rw (le-leb 1 n h) (le-leb n sectorLimit l)

@@ -1,18 +1,18 @@
 -- No accepted file exceeds 12,643 bytes: each record names a cell of its own. Assumes nothing.
 use mathlib.Core.Bool.{Bool, true, false, _&&_, _||_, cond, false≢true}
 use mathlib.Core.List.{List, [], _∷_}
-use mathlib.Core.Path.{_≡_, refl, sym, ap, subst, _∙_}
-use Prim.Native.Nat.{ℕ, zero, suc, _+_, _*_, _-_, _≤_, _<_}
+use mathlib.Core.Path.{_≡_, refl, ap, subst, _∙_}
+use Prim.Native.Nat.{ℕ, zero, suc, _+_, _*_, _≤_, _<_}
 use native.Mathlib.Nat.{not-suc-le-zero, le-refl, mul-le-mul-left, mul-add, mul-one}
 use native.Mathlib.Omega.{arith}
-use borrow.Author.Tests.{ltb-true, ltb-false, lt-ltb, le-ltb, leb-true, eqb-true, eq-eqb, ne-eqb}
+use borrow.Author.Tests.{ltb-true, ltb-false, eqb-true, eq-eqb}
 use lib.Dec.{eqb, leb, ltb}
-use lib.ListN.{length, List·getD-eq-default}
+use lib.ListN.{length}
 use Rattle.model.specs.Numbers.{sum, cell}
-use Rattle.model.specs.Table.{sectorLimit}
-use Rattle.model.specs.File.{Entry, recordLengths, columnWords, kindAt, isFlow, nextAt, wholeAt, insideAt, entryAt, namedBefore, Reading, walk, reading, fileLimit, wordLimit}
+use Rattle.model.specs.Table.{sectorLimit, fewSectors}
+use Rattle.model.specs.File.{Entry, kindAt, nextAt, wholeAt, insideAt, entryAt, namedBefore, Reading, walk, reading, fileLimit, wordLimit}
 use Rattle.theory.proofs.Sums.{sum-mono}
-use Rattle.theory.proofs.Lists.{and-true}
+use Rattle.theory.proofs.Lists.{and-true, from-one}
 use Rattle.theory_files.proofs.RecordKinds.{wordBytes, Taken, taken}
 
 -- a sum with one larger cell
@@ -143,7 +143,7 @@ unfolding reading
 accepted-length s n es e =
     let some = barred (eqb (length s) 0) _ 15 0 (ap accepted e) in
     let whole = through (wholeAt s 0) _ 11 0 (some .1) in
-    let sized = through (eqb (kindAt s 0) 1 && (leb 1 (cell s 1) && leb (cell s 1) sectorLimit)) _ 12 0 (whole .1) in
-    let range = leb 1 (cell s 1) && leb (cell s 1) sectorLimit in
-    let size = and-true (leb 1 (cell s 1)) (leb (cell s 1) sectorLimit) (and-true (eqb (kindAt s 0) 1) range (sized .0) .1) in
-    walk-length (length s) s (cell s 1) [] 2 (leb-true (cell s 1) sectorLimit (size .1)) (omega arith) (sized .1)
+    let n = cell s 1 in
+    let sized = through (eqb (kindAt s 0) 1 && fewSectors n) _ 12 0 (whole .1) in
+    let few = from-one n sectorLimit (and-true (eqb (kindAt s 0) 1) (fewSectors n) (sized .0) .1) in
+    walk-length (length s) s n [] 2 (few .1) (omega arith) (sized .1)

@@ -10,11 +10,11 @@ use lib.Dec.{eqb, leb, ltb}
 use lib.ListN.{length, take}
 use lib.Seq.{length-take-le}
 use Rattle.model.specs.Numbers.{cell}
-use Rattle.model.specs.Table.{sectorLimit}
+use Rattle.model.specs.Table.{sectorLimit, fewSectors}
 use Rattle.model.specs.File.{Entry, recordLengths, amountFrom, kindAt, nextAt, wholeAt, insideAt, entryAt, namedBefore, Reading, walk, reading, fileLimit}
 use Rattle.model.specs.Page.{readingPage, page}
 use Rattle.theory_files.specs.Files.{inputLimit}
-use Rattle.theory.proofs.Lists.{first-before, and-true}
+use Rattle.theory.proofs.Lists.{first-before, and-true, from-one}
 use Rattle.theory_files.proofs.RecordKinds.{no-kind, body, taken}
 use Rattle.theory_files.proofs.Lengths.{weight, weight-most, offset-on}
 
@@ -95,7 +95,6 @@ module _ (s t : List ℕ) (same : (i : ℕ) → i < inputLimit → cell t i ≡ 
   unfolding reading
   reading-same =
       let n = cell s 1 in
-      let range = leb 1 n && leb n sectorLimit in
       rw (
         whole-same 0 (omega arith),
         same 0 (omega arith),
@@ -104,9 +103,9 @@ module _ (s t : List ℕ) (same : (i : ℕ) → i < inputLimit → cell t i ≡ 
         ne-eqb (length s) 0 (λ e. omega arith),
       )
       (cond-then (wholeAt s 0) _ _ _ (λ whole.
-      cond-then (eqb (kindAt s 0) 1 && range) _ _ _ (λ sized.
-      let size = and-true (leb 1 n) (leb n sectorLimit) (and-true (eqb (kindAt s 0) 1) range sized .1) in
-      walk-same (length t) (length s) n [] 2 (leb-true n sectorLimit (size .1)) (omega arith) (omega arith) (omega arith))))
+      cond-then (eqb (kindAt s 0) 1 && fewSectors n) _ _ _ (λ sized.
+      let few = from-one n sectorLimit (and-true (eqb (kindAt s 0) 1) (fewSectors n) sized .1) in
+      walk-same (length t) (length s) n [] 2 (few .1) (omega arith) (omega arith) (omega arith))))
 
 -- A program that reads its input into 12,649 bytes or more answers as if it had read everything
 pub prefix-answers : (k : ℕ) (s : List ℕ) → inputLimit ≤ k → k ≤ length s → reading (take k s) ≡ reading s

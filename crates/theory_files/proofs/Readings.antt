@@ -5,15 +5,15 @@ use mathlib.Core.Path.{_≡_, refl, subst}
 use Prim.Native.Nat.{ℕ, zero, suc, _+_, _≤_}
 use native.Mathlib.Nat.{le-refl}
 use native.Mathlib.Omega.{arith}
-use borrow.Author.Tests.{leb-false, leb-true, ltb-true, ltb-false}
+use borrow.Author.Tests.{leb-false, ltb-true, ltb-false}
 use lib.Dec.{eqb, leb, ltb, lit≤}
 use lib.ListN.{length, take}
 use lib.Seq.{length-take-le}
 use Rattle.model.specs.Numbers.{cell}
-use Rattle.model.specs.Table.{sectorLimit}
+use Rattle.model.specs.Table.{sectorLimit, fewSectors}
 use Rattle.model.specs.File.{Entry, kindAt, nextAt, wholeAt, insideAt, entryAt, namedBefore, Reading, walk, reading}
 use Rattle.theory_files.specs.Files.{inputLimit, Within}
-use Rattle.theory.proofs.Lists.{and-true}
+use Rattle.theory.proofs.Lists.{and-true, from-one}
 use Rattle.theory_files.proofs.RecordKinds.{taken}
 use Rattle.theory_files.proofs.Prefixes.{prefix-answers}
 
@@ -64,12 +64,11 @@ unfolding reading
 whole-answered s =
     let len = length s in
     let n = cell s 1 in
-    let range = leb 1 n && leb n sectorLimit in
     unless len (eqb len 0) _ 15 0 (le-refl 15, omega arith) (λ some.
     provided len (wholeAt s 0) _ 11 0 (lit≤ tt, omega arith) (λ whole.
-    provided len (eqb (kindAt s 0) 1 && range) _ 12 0 (lit≤ tt, omega arith) (λ sized.
-    let size = and-true (leb 1 n) (leb n sectorLimit) (and-true (eqb (kindAt s 0) 1) range sized .1) in
-    walk-answered len s n [] 2 (leb-true 1 n (size .0)) (leb-true n sectorLimit (size .1)) tt)))
+    provided len (eqb (kindAt s 0) 1 && fewSectors n) _ 12 0 (lit≤ tt, omega arith) (λ sized.
+    let few = from-one n sectorLimit (and-true (eqb (kindAt s 0) 1) (fewSectors n) sized .1) in
+    walk-answered len s n [] 2 (few .0) (few .1) tt)))
 
 answered-more : (a b : ℕ) (r : Reading) → a ≤ b → Answered a r → Answered b r
 answered-more a b (Reading.refused number place) h p = (p .0, omega (arith, p .1))

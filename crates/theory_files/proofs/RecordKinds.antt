@@ -10,7 +10,7 @@ use lib.ListN.{length, List·getD-eq-default}
 use Rattle.model.specs.Numbers.{cell}
 use Rattle.model.specs.Table.{sectorLimit}
 use Rattle.model.specs.File.{recordLengths, columnWords, kindAt, isFlow, nextAt, wholeAt, insideAt, entryAt, wordLimit}
-use Rattle.theory.proofs.Lists.{first-before, and-true}
+use Rattle.theory.proofs.Lists.{first-before, and-true, from-one}
 use Rattle.theory_files.specs.Files.{Within}
 
 -- past the last kind there is no body
@@ -52,10 +52,6 @@ column k some no-1 no-2 no-8 = go (ltb k 10) refl
 abbrev pub wordBytes : ℕ → ℕ
 wordBytes word = cond (ltb word sectorLimit) 7 6
 
--- a sector byte from 1 to n
-sector : (n b : ℕ) → leb 1 b && leb b n ≡ true → (1 ≤ b) × (b ≤ n)
-sector n b e = let parts = and-true (leb 1 b) (leb b n) e in (leb-true 1 b (parts .0), leb-true b n (parts .1))
-
 -- the reader takes a record: it names a cell that a table of n sectors has
 pub record Taken (n : ℕ) (s : List ℕ) (at : ℕ) : Type 0 where
   pub bytes : wordBytes (entryAt s at .word) ≡ cell recordLengths (kindAt s at)
@@ -87,12 +83,12 @@ module _ (s : List ℕ) (at : ℕ) (whole : wholeAt s at ≡ true) where
         parts = and-true _ _ inside
 
         first : (1 ≤ cell s (at + 1)) × (cell s (at + 1) ≤ n)
-        first = sector n (cell s (at + 1)) (parts .0)
+        first = from-one (cell s (at + 1)) n (parts .0)
 
         go : (b : Bool) → isFlow s at ≡ b → Taken n s at
         go true e =
             let f = first in
-            let second = sector n (cell s (at + 2)) (rw e at (parts .1)) in
+            let second = from-one (cell s (at + 2)) n (rw e at (parts .1)) in
             let low : cell s (at + 1) - 1 < n = omega arith in
             record {
               bytes = rw (e, lt-ltb (cell s (at + 1) - 1) sectorLimit (omega arith), eqb-true (kindAt s at) 2 e) refl;

@@ -6,12 +6,12 @@ use Prim.Native.Nat.{ℕ, _*_, _≤_}
 use native.Mathlib.Nat.{mul-le-mul}
 use native.Mathlib.Omega.{arith}
 use borrow.Author.Needs.{needs}
-use borrow.Author.Tests.{not-true, not-false, leb-true}
-use lib.Dec.{leb, eqb}
+use borrow.Author.Tests.{not-true, not-false}
+use lib.Dec.{eqb}
 use Rattle.model.specs.Numbers.{all}
 use Rattle.model.specs.Table.{sectorLimit, fewSectors}
 use Rattle.model.specs.Checks.{verdict, accepts, refuses, size, lengths}
-use Rattle.theory.proofs.Lists.{and-true}
+use Rattle.theory.proofs.Lists.{from-one}
 use Rattle.theory.proofs.Verdicts.{single-passed, single-failed}
 use Rattle.checks.proofs.check_sizes.Statement.{statement}
 use Rattle.checks.proofs.check_sizes.Tie as tie
@@ -39,7 +39,7 @@ passed-1 : (c : tie.Else1) → fewSectors (entry c .args .n) ≡ true
 passed-1 c = sym (c .before .is-sized .ensures) ∙ not-false _ (c .if1 .left)
 
 few : (c : tie.Else1) → entry c .args .n ≤ sectorLimit
-few c = leb-true _ sectorLimit (and-true (leb 1 (entry c .args .n)) _ (passed-1 c) .1)
+few c = from-one (entry c .args .n) sectorLimit (passed-1 c) .1
 
 returns : tie.Need-returns
 returns c =

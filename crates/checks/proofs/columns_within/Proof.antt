@@ -1,14 +1,12 @@
 -- `checks::columns_within` meets its contract. Within a column sum is the sum of the cells above i, and is not over; no column before j is
 -- over. Assumes nothing.
-use mathlib.Core.List.{[]}
-use mathlib.Core.Path.{_≡_, refl, sym}
+use mathlib.Core.Path.{_≡_, refl}
 use Prim.Native.Nat.{ℕ, _+_, _*_, _≤_, _-_, _<_}
 use native.Mathlib.Omega.{arith}
 use Rattle.model.specs.Numbers.{sum, at, transposed}
 use Rattle.model.specs.Checks.{columnSums, columnLimit}
 use Rattle.theory.proofs.Sums.{sum-more, sum-over, sum-under, cell-in}
-use Rattle.theory.proofs.Lists.{All, all-none, all-more}
-use Rattle.theory.proofs.Verdicts.{passed, failed-each}
+use Rattle.theory.proofs.Verdicts.{Scan, scan-none, scan-more, scan-failed-each, scan-passed}
 use Rattle.checks.proofs.columns_within.Statement.{statement}
 use Rattle.checks.proofs.columns_within.Tie as tie
 
@@ -19,7 +17,7 @@ abbrev μ-loop : tie.MeasureT-loop
 μ-loop n d j sum₀ i₀ s i = n - i
 
 abbrev Inv-scan : tie.InvT-scan
-Inv-scan n d j₀ j = (j ≤ n) × All (columnSums n (at n d) .passes) j
+Inv-scan n d j₀ j = Scan (columnSums n (at n d)) j
 
 abbrev μ-scan : tie.MeasureT-scan
 μ-scan n d j₀ j = n - j
@@ -44,27 +42,21 @@ scan-again c =
     let l = c .before .loop in
     let p = c .before .before .before in
     let under = sum-under (column p) (l .i) _ (l .sum) columnLimit (l .inv .1) (l .inv .0) (c .loop-test .left) (l .inv .2) in
-    (omega arith, all-more _ (p .scan .j) (p .scan .inv .1) under)
-
-returns : tie.Need-returns Inv-loop μ-loop Inv-scan μ-scan
-returns c =
-    let p = c .before in
-    let a = p .before .args in
-    sym (passed (columnSums (a .n) (at (a .n) (a .d .now))) [] [] (p .scan .j) (c .if1 .taken) (p .scan .inv .1))
+    scan-more (p .scan .inv) (c .before .before .if1 .left) under
 
 returns-2 : tie.Need-returns-2 Inv-loop μ-loop Inv-scan μ-scan
 returns-2 c =
     let l = c .before .before .before .loop in
     let p = c .before .before .before .before .before in
-    let a = p .before .args in
     let over = sum-over (column p) (l .i) _ (l .sum) columnLimit (l .inv .1) (c .before .before .loop-test .taken) (c .if2 .taken) in
-    sym (failed-each 7 (a .n) (columnSums (a .n) (at (a .n) (a .d .now)) .passes) [] [] (p .scan .j) (c .before .before .before .before .if1 .left) (p .scan .inv .1) over)
+    scan-failed-each (p .scan .inv) (c .before .before .before .before .if1 .left) over
 
 pub columns-within-spec : {M : Type 1} → statement M
 columns-within-spec =
     tie.close
     (tie.spec
-    Inv-loop μ-loop Inv-scan μ-scan (λ c. (omega arith, all-none _)) (λ c. (omega arith, refl, omega arith))
+    Inv-loop μ-loop Inv-scan μ-scan (λ c. scan-none) (λ c. (omega arith, refl, omega arith))
     (λ c. omega (arith, in-matrix c)) (λ c. omega (arith, in-matrix c)) (λ c. omega (arith, in-matrix c))
     (λ c. omega (arith, in-matrix (c .before))) (λ c. omega arith) (λ c. omega arith) (λ c. omega arith) (λ c. omega arith)
-    loop-again (λ c. omega arith) (λ c. omega arith) scan-again returns returns-2)
+    loop-again (λ c. omega arith) (λ c. omega arith) scan-again
+    (λ c. scan-passed (c .before .scan .inv) (c .if1 .taken)) returns-2)

@@ -1,18 +1,15 @@
 -- `checks::demand_left` meets its contract: in no sector below i does industry take more than there is. Assumes nothing.
-use mathlib.Core.List.{[]}
-use mathlib.Core.Path.{sym}
-use Prim.Native.Nat.{_≤_, _-_}
+use Prim.Native.Nat.{_-_}
 use native.Mathlib.Omega.{arith}
 use borrow.Author.Tests.{lt-leb, le-leb}
 use Rattle.model.specs.Numbers.{at}
 use Rattle.model.specs.Checks.{demandLeft}
-use Rattle.theory.proofs.Lists.{All, all-none, all-more}
-use Rattle.theory.proofs.Verdicts.{passed, failed-each}
+use Rattle.theory.proofs.Verdicts.{Scan, scan-none, scan-more, scan-failed-each, scan-passed}
 use Rattle.checks.proofs.demand_left.Statement.{statement}
 use Rattle.checks.proofs.demand_left.Tie as tie
 
 abbrev Inv-loop : tie.InvT-loop
-Inv-loop n d y i₀ i = (i ≤ n) × All (demandLeft n (at n d) y .passes) i
+Inv-loop n d y i₀ i = Scan (demandLeft n (at n d) y) i
 
 abbrev μ-loop : tie.MeasureT-loop
 μ-loop n d y i₀ i = n - i
@@ -25,25 +22,17 @@ intermediate-use-requires c κs =
 
 returns : tie.Need-returns Inv-loop μ-loop
 returns c =
-    let l = c .before .before .before .before .loop in
-    let a = c .before .before .before .before .before .before .before .args in
-    let h = c .before .before .before .loop-test .taken in
-    sym (failed-each 10 (a .n) (demandLeft (a .n) (at (a .n) (a .d .now)) (a .y .now) .passes) [] [] (l .i) h (l .inv .1) (lt-leb _ _ (rw (c .before .intermediate-use .ensures) at (c .if1 .taken))))
+    let q = c .before .before .before in
+    scan-failed-each (q .before .loop .inv) (q .loop-test .taken) (lt-leb _ _ (rw (c .before .intermediate-use .ensures) at (c .if1 .taken)))
 
 loop-again : tie.Need-loop-again Inv-loop μ-loop
 loop-again c =
-    let l = c .before .before .before .before .loop in
-    (omega arith, all-more _ (l .i) (l .inv .1) (le-leb _ _ (rw (c .before .intermediate-use .ensures) at (c .if1 .left))))
-
-returns-2 : tie.Need-returns-2 Inv-loop μ-loop
-returns-2 c =
-    let l = c .before .loop in
-    let a = c .before .before .before .before .args in
-    sym (passed (demandLeft (a .n) (at (a .n) (a .d .now)) (a .y .now)) [] [] (l .i) (c .loop-test .left) (l .inv .1))
+    let q = c .before .before .before in
+    scan-more (q .before .loop .inv) (q .loop-test .taken) (le-leb _ _ (rw (c .before .intermediate-use .ensures) at (c .if1 .left)))
 
 pub demand-left-spec : {M : Type 1} → statement M
 demand-left-spec =
     tie.close
     (tie.spec
-    Inv-loop μ-loop (λ c. (omega arith, all-none _)) (λ c. omega arith) (λ c. omega arith) intermediate-use-requires returns
-    (λ c. omega arith) (λ c. omega arith) loop-again returns-2)
+    Inv-loop μ-loop (λ c. scan-none) (λ c. omega arith) (λ c. omega arith) intermediate-use-requires returns
+    (λ c. omega arith) (λ c. omega arith) loop-again (λ c. scan-passed (c .before .loop .inv) (c .loop-test .left)))

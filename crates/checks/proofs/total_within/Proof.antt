@@ -1,5 +1,4 @@
 -- `checks::total_within` meets its contract: total is the sum of the cells below i, and no running total so far is over. Assumes nothing.
-use mathlib.Core.List.{[]}
 use mathlib.Core.Path.{_≡_, refl, sym}
 use Prim.Native.Nat.{suc, _+_, _≤_, _-_}
 use native.Mathlib.Omega.{arith}
@@ -8,14 +7,12 @@ use native.Mathlib.Numerals.{add-one}
 use Rattle.model.specs.Numbers.{sum, cell}
 use Rattle.model.specs.Checks.{productionLimit, productionTotal}
 use Rattle.theory.proofs.Sums.{sum-more, sum-over, sum-under}
-use Rattle.theory.proofs.Lists.{All, all-none, all-more}
-use Rattle.theory.proofs.Verdicts.{passed, failed-each}
+use Rattle.theory.proofs.Verdicts.{Scan, scan-none, scan-more, scan-failed-each, scan-passed}
 use Rattle.checks.proofs.total_within.Statement.{statement}
 use Rattle.checks.proofs.total_within.Tie as tie
 
 abbrev Inv-loop : tie.InvT-loop
-Inv-loop n y total₀ i₀ total i =
-    (i ≤ n) × (total ≡ sum i (cell y)) × (total ≤ productionLimit) × All (productionTotal n y .passes) i
+Inv-loop n y total₀ i₀ total i = (total ≡ sum i (cell y)) × (total ≤ productionLimit) × Scan (productionTotal n y) i
 
 abbrev μ-loop : tie.MeasureT-loop
 μ-loop n y total₀ i₀ total i = n - i
@@ -24,27 +21,22 @@ returns : tie.Need-returns Inv-loop μ-loop
 returns c =
     let l = c .before .before .before .loop in
     let a = c .before .before .before .before .args in
-    let over = sum-over (cell (a .y .now)) (l .i) (suc (l .i)) (l .total) productionLimit (l .inv .1) (lt-suc-self (l .i)) (c .if1 .taken) in
-    sym (failed-each 8 (a .n) (productionTotal (a .n) (a .y .now) .passes) [] [] (l .i) (omega arith) (l .inv .3) over)
+    let over = sum-over (cell (a .y .now)) (l .i) (suc (l .i)) (l .total) productionLimit (l .inv .0) (lt-suc-self (l .i)) (c .if1 .taken) in
+    scan-failed-each (l .inv .2) (c .before .before .loop-test .taken) over
 
 loop-again : tie.Need-loop-again Inv-loop μ-loop
 loop-again c =
     let l = c .before .before .before .loop in
     let a = c .before .before .before .before .args in
-    let more = sum-more (cell (a .y .now)) (l .i) (l .total) (l .inv .1) in
+    let more = sum-more (cell (a .y .now)) (l .i) (l .total) (l .inv .0) in
     let one = add-one (l .i) in
     let under = sum-under (cell (a .y .now)) (l .i + 1) (suc (l .i)) _ productionLimit more (le-of-eq one) (le-of-eq (sym one)) (omega arith) in
-    (omega arith, more, omega arith, all-more _ (l .i) (l .inv .3) under)
-
-returns-2 : tie.Need-returns-2 Inv-loop μ-loop
-returns-2 c =
-    let l = c .before .loop in
-    let a = c .before .before .args in
-    sym (passed (productionTotal (a .n) (a .y .now)) [] [] (l .i) (c .loop-test .left) (l .inv .3))
+    (more, omega arith, scan-more (l .inv .2) (c .before .before .loop-test .taken) under)
 
 pub total-within-spec : {M : Type 1} → statement M
 total-within-spec =
     tie.close
     (tie.spec
-    Inv-loop μ-loop (λ c. (omega arith, refl, omega arith, all-none _)) (λ c. omega arith) (λ c. omega arith)
-    (λ c. omega arith) returns (λ c. omega arith) (λ c. omega arith) (λ c. omega arith) loop-again returns-2)
+    Inv-loop μ-loop (λ c. (refl, omega arith, scan-none)) (λ c. omega arith) (λ c. omega arith)
+    (λ c. omega arith) returns (λ c. omega arith) (λ c. omega arith) (λ c. omega arith) loop-again
+    (λ c. scan-passed (c .before .loop .inv .2) (c .loop-test .left)))

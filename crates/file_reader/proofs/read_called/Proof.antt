@@ -8,7 +8,7 @@ use lib.ListN.{length, replicate}
 use Rattle.model.specs.File.{Reading, fits, answerOf, wordLimit}
 use Rattle.file_walk.specs.Steps.{Held}
 use Rattle.file_walk.proofs.CellLaws.{held-refused}
-use Rattle.file_reader.proofs.Delivery.{fit-words, called-fit, called-unfit}
+use Rattle.file_reader.proofs.Delivery.{fit, called-fit, called-unfit}
 use Rattle.file_reader.proofs.read_called.Statement.{statement}
 use Rattle.file_reader.proofs.read_called.Tie as tie
 
@@ -28,7 +28,7 @@ passes : (p : tie.Else1) → let a = start p .args in fits (a .x) (a .columns .n
 passes p = sym (p .before .is-fit .ensures) ∙ not-false _ (p .if1 .left)
 
 words : (p : tie.Else1) → length (start p .args .marks .now) ≡ wordLimit
-words p = let a = start p .args in fit-words (a .x) (a .columns .now) (length (a .marks .now)) (passes p)
+words p = let a = start p .args in fit (a .x) (a .columns .now) (length (a .marks .now)) (passes p) .1
 
 read-flat-requires : tie.Need-read-flat-requires
 read-flat-requires c κs = let p = c .before .before in (start p .pre, words p)

@@ -7,6 +7,7 @@ use native.Mathlib.Omega.{arith}
 use borrow.Author.Needs.{needs}
 use borrow.Author.Tests.{not-true, not-false}
 use Rattle.model.specs.File.{Entry, insideAt, entryAt, namedBefore, walk}
+use Rattle.file_records.specs.Bodies.{Body}
 use Rattle.file_records.specs.Marks.{marked}
 use Rattle.theory_files.proofs.RecordKinds.{Taken}
 use Rattle.file_walk.specs.Steps.{Agrees, Names}
@@ -15,6 +16,9 @@ use Rattle.file_walk.proofs.NameLaws.{bodied, named, names-of}
 use Rattle.file_walk.proofs.Loops.{takes}
 use Rattle.file_walk.proofs.ask_cell.Statement.{statement}
 use Rattle.file_walk.proofs.ask_cell.Tie as tie
+
+body : (s : tie.Start) → Body (s .args .file .now) (s .args .at)
+body s = bodied (s .args .file .now) (s .args .at) (s .pre .2) (s .pre .3)
 
 -- past question 13
 abbrev entry : tie.Else1 → tie.Start
@@ -46,7 +50,7 @@ names c =
     names-of (s .args .file .now) (s .args .at) (s .pre .2) (s .pre .3) (s .args .n) (s .pre .0) (inside (c .before .before .before .before .before .before .before)) (c .record-length .result) (c .record-length .ensures)
 
 is-inside-requires : tie.Need-is-inside-requires
-is-inside-requires c κs = let s = c .before .before in bodied (s .args .file .now) (s .args .at) (s .pre .2) (s .pre .3)
+is-inside-requires c κs = body (c .before .before)
 
 returns : tie.Need-returns
 returns c =
@@ -54,14 +58,10 @@ returns c =
     λ fuel es a. outside (s .args .file .now) (s .args .n) (s .args .at) fuel es (s .pre .2) (s .pre .3) (sym (c .before .is-inside .ensures) ∙ not-true _ (c .if1 .taken))
 
 word-at-requires : tie.Need-word-at-requires
-word-at-requires c κs =
-    let s = entry c in
-    (bodied (s .args .file .now) (s .args .at) (s .pre .2) (s .pre .3), is-taken c .sectors)
+word-at-requires c κs = (body (entry c), is-taken c .sectors)
 
 position-at-requires : tie.Need-position-at-requires
-position-at-requires c κs =
-    let s = entry (c .before) in
-    (bodied (s .args .file .now) (s .args .at) (s .pre .2) (s .pre .3), is-taken (c .before) .sectors)
+position-at-requires c κs = (body (entry (c .before)), is-taken (c .before) .sectors)
 
 is-marked-requires : tie.Need-is-marked-requires
 is-marked-requires c κs =
@@ -76,7 +76,7 @@ returns-2 c =
     λ fuel es a. twice (s .args .file .now) (s .args .n) (s .args .at) fuel es (s .pre .2) (s .pre .3) (inside (q .before .before .before)) (told q es a ∙ c .if2 .taken)
 
 amount-at-requires : tie.Need-amount-at-requires
-amount-at-requires c κs = let s = entry (c .before .before .before .before) in bodied (s .args .file .now) (s .args .at) (s .pre .2) (s .pre .3)
+amount-at-requires c κs = body (entry (c .before .before .before .before))
 
 returns-3 : tie.Need-returns-3
 returns-3 c =

@@ -5,13 +5,12 @@ use mathlib.Core.Path.{_≡_, sym, ap, _∙_}
 use Prim.Native.Nat.{ℕ, _≤_}
 use native.Mathlib.Omega.{arith}
 use borrow.Author.Needs.{needs}
-use borrow.Author.Tests.{not-true, not-false, leb-true}
-use lib.Dec.{leb}
+use borrow.Author.Tests.{not-true, not-false}
 use lib.ListN.{length}
 use Rattle.model.specs.Numbers.{cell}
 use Rattle.model.specs.Table.{sectorLimit, fewSectors}
 use Rattle.model.specs.File.{wholeAt, walk}
-use Rattle.theory.proofs.Lists.{and-true}
+use Rattle.theory.proofs.Lists.{from-one}
 use Rattle.file_walk.proofs.WalkLaws.{empty, first-broken, first-other, not-sized, opens}
 use Rattle.file_walk.proofs.NameLaws.{first-long}
 use Rattle.file_walk.proofs.open.Statement.{statement}
@@ -56,7 +55,7 @@ returns-5 c =
     let few = sized (c .before) ∙ not-false _ (c .if4 .left) in
     let n = c .before .before .wide .ensures .0 in (
       opens s (q .before .before .if1 .left) (whole q) (e .if3 .left) few ∙ ap (λ (n : ℕ). walk (length s) s n [] 2) (sym n),
-      omega (arith, n, leb-true (cell s 1) sectorLimit (and-true (leb 1 (cell s 1)) _ few .1)),
+      omega (arith, n, from-one (cell s 1) sectorLimit few .1),
       long e,
     )
 

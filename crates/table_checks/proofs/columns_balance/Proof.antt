@@ -7,11 +7,10 @@ use native.Mathlib.Nat.{le-trans}
 use native.Mathlib.Omega.{arith}
 use borrow.Author.Tests.{eq-eqb, ne-eqb}
 use Rattle.model.specs.Numbers.{sum, at, cell, transposed}
-use Rattle.model.specs.Table.{Table, tableOf, sectorLimit}
+use Rattle.model.specs.Table.{tableOf, sectorLimit}
 use Rattle.model.specs.Checks.{amountLimit, columnBalances}
 use Rattle.theory.proofs.Sums.{sum-more, sum-done, cell-in}
-use Rattle.theory.proofs.Lists.{All, all-none, all-more}
-use Rattle.theory.proofs.Verdicts.{passed, failed-each}
+use Rattle.theory.proofs.Verdicts.{Scan, scan-none, scan-more, scan-failed-each, scan-passed}
 use Rattle.table_checks.proofs.columns_balance.Statement.{statement}
 use Rattle.table_checks.proofs.columns_balance.Tie as tie
 
@@ -22,15 +21,12 @@ abbrev μ-loop : tie.MeasureT-loop
 μ-loop n x value production j sum₀ i₀ s i = n - i
 
 abbrev Inv-scan : tie.InvT-scan
-Inv-scan n x value production j₀ j = (j ≤ n) × All (columnBalances (tableOf n x ([] ∷ [] ∷ [] ∷ value ∷ production ∷ [])) .passes) j
+Inv-scan n x value production j₀ j = Scan (columnBalances (tableOf n x ([] ∷ [] ∷ [] ∷ value ∷ production ∷ []))) j
 
 abbrev μ-scan : tie.MeasureT-scan
 μ-scan n x value production j₀ j = n - j
 
--- the table as far as it is looked at, and the cells of column j
-abbrev table : tie.Start Inv-loop μ-loop Inv-scan μ-scan → Table
-table s = let a = s .args in tableOf (a .n) (a .x .now) ([] ∷ [] ∷ [] ∷ a .value-added .now ∷ a .production .now ∷ [])
-
+-- the cells of column j
 abbrev column : tie.At-scan Inv-loop μ-loop Inv-scan μ-scan → ℕ → ℕ
 column p = transposed (at (p .before .args .n) (p .before .args .x .now)) (p .scan .j)
 
@@ -77,28 +73,21 @@ scan-again c =
     let q = c .before .before .before in
     let p = q .before .before .before in
     let v = cell (p .before .args .value-added .now) (p .scan .j) in
-    let e = ap (λ (t : ℕ). t + v) (sym (done q)) ∙ c .if2 .left in
-    (omega arith, all-more _ (p .scan .j) (p .scan .inv .1) (eq-eqb _ _ e))
-
-returns : tie.Need-returns Inv-loop μ-loop Inv-scan μ-scan
-returns c =
-    let p = c .before in
-    sym (passed (columnBalances (table (p .before))) [] [] (p .scan .j) (c .if1 .taken) (p .scan .inv .1))
+    scan-more (p .scan .inv) (q .before .before .if1 .left) (eq-eqb _ _ (ap (λ (t : ℕ). t + v) (sym (done q)) ∙ c .if2 .left))
 
 returns-2 : tie.Need-returns-2 Inv-loop μ-loop Inv-scan μ-scan
 returns-2 c =
     let q = c .before .before .before in
     let p = q .before .before .before in
     let v = cell (p .before .args .value-added .now) (p .scan .j) in
-    let h = q .before .before .if1 .left in
-    sym (failed-each 4 (p .before .args .n) (columnBalances (table (p .before)) .passes) [] [] (p .scan .j) h (p .scan .inv .1)
-    (ne-eqb _ _ (λ e. c .if2 .taken (ap (λ (t : ℕ). t + v) (done q) ∙ e))))
+    scan-failed-each (p .scan .inv) (q .before .before .if1 .left) (ne-eqb _ _ (λ e. c .if2 .taken (ap (λ (t : ℕ). t + v) (done q) ∙ e)))
 
 pub columns-balance-spec : {M : Type 1} → statement M
 columns-balance-spec =
     tie.close
     (tie.spec
-    Inv-loop μ-loop Inv-scan μ-scan (λ c. (omega arith, all-none _)) (λ c. (omega arith, refl, omega arith))
+    Inv-loop μ-loop Inv-scan μ-scan (λ c. scan-none) (λ c. (omega arith, refl, omega arith))
     (λ c. omega (arith, term c .0)) (λ c. omega (arith, term c .0)) (λ c. omega (arith, term c .0))
     (λ c. omega (arith, term (c .before) .0)) (λ c. omega (arith, term (c .before) .1, fits (c .before))) (λ c. omega arith) (λ c. omega arith) loop-again
-    (λ c. omega arith) (λ c. omega arith) add-if2 (λ c. omega arith) (λ c. omega arith) (λ c. omega arith) (λ c. omega arith) scan-again returns returns-2)
+    (λ c. omega arith) (λ c. omega arith) add-if2 (λ c. omega arith) (λ c. omega arith) (λ c. omega arith) (λ c. omega arith) scan-again
+    (λ c. scan-passed (c .before .scan .inv) (c .if1 .taken)) returns-2)

@@ -7,14 +7,12 @@ use borrow.Author.Tests.{eq-eqb, ne-eqb}
 use Rattle.model.specs.Numbers.{cell}
 use Rattle.model.specs.Table.{Table, tableOf, exports, need}
 use Rattle.model.specs.Checks.{amountLimit, rowBalances}
-use Rattle.theory.proofs.Lists.{All, all-none, all-more}
-use Rattle.theory.proofs.Verdicts.{passed, failed-each}
+use Rattle.theory.proofs.Verdicts.{Scan, scan-none, scan-more, scan-failed-each, scan-passed}
 use Rattle.table_checks.proofs.rows_balance.Statement.{statement}
 use Rattle.table_checks.proofs.rows_balance.Tie as tie
 
 abbrev Inv-loop : tie.InvT-loop
-Inv-loop n x demand abroad imports production i₀ i =
-    (i ≤ n) × All (rowBalances (tableOf n x (demand ∷ abroad ∷ imports ∷ [] ∷ production ∷ [])) .passes) i
+Inv-loop n x demand abroad imports production i₀ i = Scan (rowBalances (tableOf n x (demand ∷ abroad ∷ imports ∷ [] ∷ production ∷ []))) i
 
 abbrev μ-loop : tie.MeasureT-loop
 μ-loop n x demand exports imports production i₀ i = n - i
@@ -49,25 +47,18 @@ need-of-requires c κs =
 returns : tie.Need-returns Inv-loop μ-loop
 returns c =
     let q = c .before .before .before .before in
-    let p = q .before .before in
-    sym (failed-each 5 (entry p .args .n) (rowBalances (table (entry p)) .passes) [] [] (p .loop .i) (q .before .loop-test .taken) (p .loop .inv .1)
-    (ne-eqb _ _ (λ e. c .if1 .taken (needed q ∙ e))))
+    scan-failed-each (q .before .before .loop .inv) (q .before .loop-test .taken) (ne-eqb _ _ (λ e. c .if1 .taken (needed q ∙ e)))
 
 loop-again : tie.Need-loop-again Inv-loop μ-loop
 loop-again c =
     let q = c .before .before .before .before in
-    let l = q .before .before .loop in
-    (omega arith, all-more _ (l .i) (l .inv .1) (eq-eqb _ _ (sym (needed q) ∙ c .if1 .left)))
-
-returns-2 : tie.Need-returns-2 Inv-loop μ-loop
-returns-2 c =
-    let p = c .before in
-    sym (passed (rowBalances (table (entry p))) [] [] (p .loop .i) (c .loop-test .left) (p .loop .inv .1))
+    scan-more (q .before .before .loop .inv) (q .before .loop-test .taken) (eq-eqb _ _ (sym (needed q) ∙ c .if1 .left))
 
 pub rows-balance-spec : {M : Type 1} → statement M
 rows-balance-spec =
     tie.close
     (tie.spec
-    Inv-loop μ-loop (λ c. (omega arith, all-none _)) need-of-requires (λ c. omega arith) (λ c. omega arith)
+    Inv-loop μ-loop (λ c. scan-none) need-of-requires (λ c. omega arith) (λ c. omega arith)
     (λ c. omega (arith, c .before .need-of .ensures .1, small (c .before) .0)) (λ c. omega arith) (λ c. omega arith) (λ c. omega arith)
-    (λ c. omega arith) (λ c. omega (arith, small (c .before .before .before))) returns (λ c. omega arith) (λ c. omega arith) loop-again returns-2)
+    (λ c. omega arith) (λ c. omega (arith, small (c .before .before .before))) returns (λ c. omega arith) (λ c. omega arith) loop-again
+    (λ c. scan-passed (c .before .loop .inv) (c .loop-test .left)))
