@@ -31,19 +31,17 @@ settle-columns-requires c κs =
     let s = passed (c .before .before .before .before .check-start .ensures) (c .before .before .enum-told .given .1) in
     ((s .matrix, s .start, s .slices .0, s .slices .1 .0), λ i h. le-trans (s .small i h) (omega arith))
 
-returns : tie.Need-returns
-returns c =
-    let r = c .before .before .before .before in
-    let k = r .before .before .before .before in
-    let q = k .before .before in
-    kept q (solved-stop (q .check-start .ensures) (k .checked .given .1) (r .refuse .ensures))
-
 returns-2 : tie.Need-returns-2
 returns-2 c =
-    let r = c .before .before .before .before in
-    let p = r .before .before .before in
+    let p = c .before .before .before .before .before .before .before in
     let q = p .before .before in
-    kept q (solved-on (q .check-start .ensures) (p .enum-told .given .1) (r .settle-columns .ensures))
+    kept q (solved-on (q .check-start .ensures) (p .enum-told .given .1) (c .before .before .before .before .settle-columns .ensures))
+
+returns : tie.Need-returns
+returns c =
+    let k = c .before .before .before .before .before .before .before .before in
+    let q = k .before .before in
+    kept q (solved-stop (q .check-start .ensures) (k .checked .given .1) (c .before .before .before .before .refuse .ensures))
 
 pub price-spec : {M : Type 1} → statement M
 price-spec =

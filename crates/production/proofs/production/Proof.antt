@@ -31,19 +31,17 @@ settle-requires c κs =
     let s = passed (q .check-start .ensures) (c .before .before .enum-told .given .1) in
     (rows-settleable (s .matrix) (entry q .args .f .now) (s .start) (s .small), s .slices .0, s .slices .1 .0)
 
-returns : tie.Need-returns
-returns c =
-    let r = c .before .before .before .before in
-    let k = r .before .before .before .before in
-    let q = k .before .before in
-    kept q (solved-stop (q .check-start .ensures) (k .checked .given .1) (r .refuse .ensures))
-
 returns-2 : tie.Need-returns-2
 returns-2 c =
-    let r = c .before .before .before .before in
-    let p = r .before .before .before in
+    let p = c .before .before .before .before .before .before .before in
     let q = p .before .before in
-    kept q (solved-on (q .check-start .ensures) (p .enum-told .given .1) (r .settle .ensures))
+    kept q (solved-on (q .check-start .ensures) (p .enum-told .given .1) (c .before .before .before .before .settle .ensures))
+
+returns : tie.Need-returns
+returns c =
+    let k = c .before .before .before .before .before .before .before .before in
+    let q = k .before .before in
+    kept q (solved-stop (q .check-start .ensures) (k .checked .given .1) (c .before .before .before .before .refuse .ensures))
 
 pub production-spec : {M : Type 1} → statement M
 production-spec =
