@@ -5,11 +5,10 @@ use mathlib.Core.Path.{_≡_, refl, sym, ap, _∙_}
 use Prim.Native.Nat.{ℕ, _*_}
 use native.Mathlib.Omega.{arith}
 use borrow.Author.Tests.{eq-eqb, ne-eqb}
-use lib.Dec.{leb, ltb, eqb}
+use lib.Dec.{eqb}
 use lib.ListN.{length, take, drop, length-drop, drop-of-length-le}
 use lib.Seq.{length-take-le}
-use Rattle.model.specs.Table.{sectorLimit}
-use Rattle.model.specs.Rounds.{rowSlice}
+use Rattle.model.specs.Rounds.{hasRow, rowSlice}
 use Rattle.inverse.proofs.Rows.{Row, has-row}
 use Rattle.c_answers.specs.Told.{ToldRow}
 
@@ -17,9 +16,9 @@ module _ (n : ℕ) (d : List ℕ) (i : ℕ) where
   -- a row that is not empty is in its sheet
   inside : (length (rowSlice n d i) ≡ 0 → ⊥) → Row n (length d) i × (rowSlice n d i ≡ take n (drop (i * n) d))
   unfolding rowSlice
-  inside some = split (leb 1 n && leb n sectorLimit && eqb (n * n) (length d) && ltb i n) refl some
+  inside some = split (hasRow n (length d) i) refl some
     where
-      split : (b : Bool) → leb 1 n && leb n sectorLimit && eqb (n * n) (length d) && ltb i n ≡ b
+      split : (b : Bool) → hasRow n (length d) i ≡ b
           → (length (cond b (take n (drop (i * n) d)) []) ≡ 0 → ⊥)
           → Row n (length d) i × (cond b (take n (drop (i * n) d)) [] ≡ take n (drop (i * n) d))
       split true e some = (has-row n (length d) i e, refl)

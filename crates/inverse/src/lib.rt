@@ -1,26 +1,20 @@
 // The Leontief inverse with its power and sensitivity of dispersion, and a sector's row of a sheet.
 use cells::fill_zero;
+use checks::is_sized;
 use inverse_columns::fill_inverse;
 use inverse_ratios::fill_dispersion;
 use model::Outcome;
-use model::SECTORS;
-ghost use mathlib.Core.Bool.{_&&_};
 ghost use mathlib.Core.Path.{_≡_};
 ghost use Prim.Native.Nat.{_*_, _<_};
-ghost use lib.Dec.{eqb, leb, ltb};
-ghost use Rattle.model.specs.Table.{sectorLimit};
-ghost use Rattle.model.specs.Rounds.{rowSlice};
+ghost use Rattle.model.specs.Rounds.{hasRow, rowSlice};
 ghost use Rattle.model.specs.Checks.{reportRounds};
 ghost use Rattle.model.specs.Contracts.{Inverted};
 
 // Is n from 1 to 40, are there n × n cells, and is the sector below n?
 fn has_row(n: usize, cells: usize, sector: usize) -> bool
-    ensures { λ r. ⌜ r ≡ leb 1 n && leb n sectorLimit && eqb (n * n) cells && ltb sector n ⌝ }
+    ensures { λ r. ⌜ r ≡ hasRow n cells sector ⌝ }
 {
-    if n < 1 {
-        return false;
-    }
-    if SECTORS < n {
+    if !is_sized(n) {
         return false;
     }
     if n * n != cells {

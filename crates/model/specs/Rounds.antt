@@ -88,5 +88,8 @@ unfoldable pub dispersion : ℕ → Sheet → Cells
 dispersion n z = tabulate n (λ j. columnSum n z j * n * one / allCells n z)
 
 -- A sector's row of a sheet: n cells from sector × n; empty where question 1 or 2 fails or the sector is not below n
+abbrev pub hasRow : (n cells sector : ℕ) → Bool
+hasRow n cells sector = fewSectors n && eqb (n * n) cells && ltb sector n
+
 unfoldable pub rowSlice : (n : ℕ) (d : Cells) (sector : ℕ) → Cells
-rowSlice n d i = cond (fewSectors n && eqb (n * n) (length d) && ltb i n) (take n (drop (i * n) d)) []
+rowSlice n d i = cond (hasRow n (length d) i) (take n (drop (i * n) d)) []
