@@ -4,12 +4,13 @@ use mathlib.Core.List.{List}
 use mathlib.Core.Path.{_≡_, refl, sym, ap, _∙_, subst⁻¹}
 use Prim.Native.Nat.{ℕ, _+_, _*_, _-_, _/_, _%_, _^_, _≤_, _<_}
 use native.Mathlib.Omega.{arith}
-use borrow.Author.Tests.{lt-leb, le-leb, leb-true, leb-false, eq-eqb, ne-eqb, eqb-true}
+use borrow.Author.Tests.{lt-leb, le-leb, leb-true, leb-false, eq-eqb, ne-eqb, eqb-true, eqb-false}
 use lib.Dec.{eqb, leb}
 use lib.ListN.{length}
 use Rattle.model.specs.Numbers.{first, cell}
 use Rattle.model.specs.File.{Entry, recordLengths, columnWords, kindAt, isFlow, nextAt, wholeAt, insideAt, amountFrom, entryAt}
 use Rattle.theory.proofs.Lists.{first-before}
+use Rattle.file_records.specs.Bodies.{Body}
 
 -- a word that holds a number for each kind in digits, `bits` bits each; that they are those of a list is computed
 pub digits : (word bits base : ℕ) (xs : List ℕ) (k : ℕ) → k < 10 → first 10 (λ i. eqb (word / 2 ^ (bits * i) % base) (cell xs i)) ≡ 10
@@ -51,6 +52,28 @@ module _ (s : List ℕ) (at : ℕ) where
   pub entry-column : (kindAt s at ≡ 2 → ⊥) → column ≡ entryAt s at
   unfolding entryAt
   entry-column k = sym (ap (λ (t : Bool). cond t flow column) (ne-eqb (kindAt s at) 2 k))
+
+  -- a record that names a cell has at least four bytes, and they are there
+  pub last-four : Body s at → (4 ≤ cell recordLengths (kindAt s at)) × (nextAt s at ≤ length s)
+  last-four b = go (isFlow s at) (b .1) (b .2)
+    where
+      go :
+          (t : Bool) → (t ≡ true → at + 7 ≤ length s) → cell recordLengths (kindAt s at) ≡ cond t 7 6
+          → (4 ≤ cell recordLengths (kindAt s at)) × (nextAt s at ≤ length s)
+      go true long e = let h = long refl in (omega arith, omega arith)
+      go false long e = let h = b .0 in (omega arith, omega arith)
+
+  -- its amount is the last four of them
+  pub amount-last : cell recordLengths (kindAt s at) ≡ cond (isFlow s at) 7 6 → amountFrom s (nextAt s at - 4) ≡ entryAt s at .amount
+  amount-last = go (isFlow s at) refl
+    where
+      go : (t : Bool) → isFlow s at ≡ t → cell recordLengths (kindAt s at) ≡ cond t 7 6 → amountFrom s (nextAt s at - 4) ≡ entryAt s at .amount
+      go true f e =
+          let z : nextAt s at - 4 ≡ at + 3 = omega arith in
+          ap (amountFrom s) z ∙ ap (λ (e : Entry). e .amount) (entry-flow (eqb-true (kindAt s at) 2 f))
+      go false f e =
+          let z : nextAt s at - 4 ≡ at + 2 = omega arith in
+          ap (amountFrom s) z ∙ ap (λ (e : Entry). e .amount) (entry-column (eqb-false (kindAt s at) 2 f))
 
   -- question 11, asked of the bytes that are left
   pub whole-none : (size : ℕ) → size ≡ cell recordLengths (kindAt s at) → size < 1 → wholeAt s at ≡ false

@@ -119,14 +119,12 @@ pub fn position_at(s: &[u8], at: usize) -> usize
     wide(s[at + 1]) - 1
 }
 
+// The amount is the last four bytes of its record, whatever the kind.
 pub fn amount_at(s: &[u8], at: usize) -> u64
     requires { ⌜ Body (now s) at ⌝ }
     ensures { λ r. ⌜ (r ≡ entryAt (now (s .entry)) at .amount) × (r < 2 ^ 32) ⌝ }
 {
-    if s[at] == 2 {
-        return amount_from(s, at + 3);
-    }
-    amount_from(s, at + 2)
+    amount_from(s, at + record_length(s[at]) - 4)
 }
 
 // Was the cell named before?

@@ -22,9 +22,11 @@ module _ (s : List ℕ) (at : ℕ) (b : Begun s at) where
     pub bodied : Body s at
     bodied = go (isFlow s at) (record-size s at (b .whole) (ne-eqb _ 1 (m .not-first)) (ne-eqb _ 8 (m .not-end)))
       where
-        go : (t : Bool) → cell recordLengths (kindAt s at) ≡ cond t 7 6 → (at + 6 ≤ length s) × (t ≡ true → at + 7 ≤ length s)
-        go true e = let p = body s at (b .whole) .1 in (omega arith, λ _. omega arith)
-        go false e = let p = body s at (b .whole) .1 in (omega arith, λ f. absurd (false≢true f))
+        go :
+            (t : Bool) → cell recordLengths (kindAt s at) ≡ cond t 7 6
+            → (at + 6 ≤ length s) × (t ≡ true → at + 7 ≤ length s) × (cell recordLengths (kindAt s at) ≡ cond t 7 6)
+        go true e = let p = body s at (b .whole) .1 in (omega arith, λ _. omega arith, e)
+        go false e = let p = body s at (b .whole) .1 in (omega arith, λ f. absurd (false≢true f), e)
 
     module _ (n : ℕ) (small : n ≤ sectorLimit) (i : insideAt s at n ≡ true) where
       pub named : Taken n s at
