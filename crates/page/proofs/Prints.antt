@@ -18,7 +18,8 @@ use Rattle.theory_files.specs.Files.{inputLimit}
 use Rattle.theory_pages.proofs.Pages.{written, unwritten}
 use Rattle.theory_files.proofs.Readings.{Answered, reading-answered}
 use Rattle.file_walk.specs.Steps.{Held}
-use Rattle.page_figures.specs.Stages.{columnStart, tableIn, Figures}
+use Rattle.page_sheets.specs.Sheets.{columnStart, tableIn}
+use Rattle.page_figures.specs.Stages.{Figures}
 use Rattle.page_production.proofs.Stages.{part}
 use Rattle.page.specs.Prints.{pageOf, Small}
 

@@ -6,7 +6,7 @@ use Rattle.model.specs.Table.{sectorLimit}
 use Rattle.model.specs.Page.{refusalLine, sheet, tablePage}
 use Rattle.model.specs.declared.TableRead.{TableRead}
 use Rattle.model.specs.declared.TableRead.the-variants.{Read, Refused}
-use Rattle.page_figures.specs.Stages.{tableIn}
+use Rattle.page_sheets.specs.Sheets.{tableIn}
 use Rattle.page.specs.declared.Print.{Print}
 use Rattle.page.specs.declared.Print.the-variants.{Refusal, Sheet}
 

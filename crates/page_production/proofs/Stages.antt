@@ -1,16 +1,17 @@
 -- What each stage owes, from what the call of its name ensures. Assumes nothing.
-use mathlib.Core.Bool.{Bool, true, cond, false≢true}
+use mathlib.Core.Bool.{false≢true}
 use mathlib.Core.Path.{_≡_, refl, sym, ap, _∙_}
 use mathlib.Core.List.{List, [], _∷_}
 use Prim.Native.Nat.{ℕ, _-_, _≤_}
 use native.Mathlib.Omega.{arith}
-use lib.ListN.{length, take, replicate}
+use lib.ListN.{length, take}
 use lib.Seq.{length-take-le}
 use Rattle.model.specs.Numbers.{at}
 use Rattle.model.specs.Rounds.{settled, inducedValueAdded, inducedImports}
 use Rattle.model.specs.Checks.{Report, accepts, refuses, output}
 use Rattle.model.specs.Calls.{productionReport, inducedReport}
 use Rattle.model.specs.Figures.{pageBudget}
+use Rattle.theory.proofs.Verdicts.{output-given}
 use Rattle.page_production.specs.Stages.{Induced, Produced}
 
 -- the first n cells of an array
@@ -18,10 +19,6 @@ pub part : (n : ℕ) (l : List ℕ) → n ≤ length l → length (take (n - 0) 
 part n l h =
     let e : n - 0 ≡ n = omega arith in
     ap (λ (k : ℕ). length (take k l)) e ∙ length-take-le n l h
-
--- what an accepted call leaves in an output slice
-pub given : (r : Report) (len : ℕ) (result : List ℕ) {x : List ℕ} → r .accepted ≡ true → x ≡ output r len result → x ≡ result
-given r len result h e = e ∙ ap (λ (b : Bool). cond b result (replicate len 0)) h
 
 -- ---- what a production induces
 module _ (n : ℕ) (a m v F y : List ℕ) (k : ℕ) {b c : ℕ} (long : b ≡ n) (long′ : c ≡ n) where
@@ -42,8 +39,8 @@ module _ (n : ℕ) (a m v F y : List ℕ) (k : ℕ) {b c : ℕ} (long : b ≡ n)
       let yes = ap (λ (r : Report). r .accepted) g in
       record {
         told = rw said refl;
-        value = λ _. given s b (inducedValueAdded n v y) yes ev;
-        imports = λ _. given s c (inducedImports n (at n a) m F y) yes ei;
+        value = λ _. ev ∙ output-given s b (inducedValueAdded n v y) yes;
+        imports = λ _. ei ∙ output-given s c (inducedImports n (at n a) m F y) yes;
       }
 
 -- ---- production
@@ -62,7 +59,7 @@ module _ (n : ℕ) (a m v F d f : List ℕ) {b c : ℕ} (long : b ≡ n) (long�
       → Produced n a m v F d f r y value imports
   production-on {s} {r} {k} {y} g e ey i =
       let said : productionReport n d f pageBudget (n ∷ n ∷ []) ≡ accepts (k ∷ []) = sym (e ∙ asked) ∙ g in
-      let made : y ≡ settled n (at n d) f pageBudget = given s b (settled n (at n d) f pageBudget) (ap (λ (r : Report). r .accepted) g) ey in
+      let made : y ≡ settled n (at n d) f pageBudget = ey ∙ output-given s b (settled n (at n d) f pageBudget) (ap (λ (r : Report). r .accepted) g) in
       record {
         told = i .told ∙ (rw (said, made) refl);
         production = λ _. made;

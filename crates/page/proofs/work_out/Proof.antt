@@ -8,7 +8,7 @@ use Rattle.model.specs.Table.{sectorLimit}
 use Rattle.model.specs.Checks.{reportRounds}
 use Rattle.model.specs.Page.{tablePage}
 use Rattle.model.specs.declared.TableRead.{TableRead}
-use Rattle.page_figures.specs.Stages.{tableIn}
+use Rattle.page_sheets.specs.Sheets.{tableIn}
 use Rattle.page.specs.Prints.{pageOf, Small}
 use Rattle.page.proofs.Prints.{table-stop, table-on, first-part}
 use Rattle.page.proofs.work_out.Statement.{statement}

@@ -3,8 +3,9 @@ use mathlib.Core.Path.{ap}
 use borrow.Author.Needs.{needs}
 use Rattle.model.specs.Checks.{report}
 use Rattle.model.specs.Table.{Table}
-use Rattle.page_figures.specs.Stages.{tableIn}
-use Rattle.page_figures.proofs.Stages.{demand-cut, figures-stop, figures-on}
+use Rattle.page_sheets.specs.Sheets.{tableIn}
+use Rattle.page_sheets.proofs.Cuts.{demand-cut}
+use Rattle.page_figures.proofs.Stages.{figures-stop, figures-on}
 use Rattle.page_figures.proofs.fill_figures.Statement.{statement}
 use Rattle.page_figures.proofs.fill_figures.Tie as tie
 

@@ -1,12 +1,12 @@
--- `page_figures::fill_coefficients` meets its contract. Assumes nothing.
+-- `page_sheets::fill_coefficients` meets its contract. Assumes nothing.
 use Prim.Native.Nat.{_*_, _≤_}
 use native.Mathlib.Nat.{mul-le-mul}
 use native.Mathlib.Omega.{arith}
 use borrow.Author.Needs.{needs}
 use Rattle.model.specs.Table.{sheetLimit}
-use Rattle.page_figures.proofs.Stages.{lentTable, sheets, table-cut}
-use Rattle.page_figures.proofs.fill_coefficients.Statement.{statement}
-use Rattle.page_figures.proofs.fill_coefficients.Tie as tie
+use Rattle.page_sheets.proofs.Cuts.{lentTable, sheets, table-cut}
+use Rattle.page_sheets.proofs.fill_coefficients.Statement.{statement}
+use Rattle.page_sheets.proofs.fill_coefficients.Tie as tie
 
 part-coefficients-end : tie.Need-part-coefficients-end
 part-coefficients-end c =

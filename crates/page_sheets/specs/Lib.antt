@@ -1,0 +1,2 @@
+-- What contracts of the sheets on the page's way cite beside the definitions of `model`.
+pub mod Sheets
