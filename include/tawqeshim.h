@@ -129,7 +129,7 @@ static inline const char *tawqeshim_question(uint8_t number) {
  * From a table to its sheets. Asks 1, 2, 3, 4, 5, 6, 7.
  *
  * Takes x, n * n cells: what sector j buys from sector i; and final_demand, exports, imports (as positive numbers), value_added and
- * production, n cells each. Places of 3 count on through these six in this order.
+ * production, n cells each. Places of 3 run on through these six in this order.
  * Gives input coefficients a and domestic coefficients d, n * n cells each; value shares v, import shares m and the demand for domestic
  * goods f, n cells each. Question 7 is about d.
  *

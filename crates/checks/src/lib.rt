@@ -84,7 +84,7 @@ pub fn matrix_within(n: usize, x: &[u64], limit: u64) -> Answer
     }
 }
 
-// Is every cell of a slice within the limit? The check's number is given, and its places count on from an offset.
+// Is every cell of a slice within the limit? The check's number is given. Cell i of the slice is at place offset + i.
 pub fn cells_within(number: u8, offset: usize, limit: u64, s: &[u64]) -> Answer
     requires { ⌜ offset + length (now s) < 2 ^ 64 ⌝ }
     ensures { λ r. ⌜ report r ≡ verdict (bounded number offset limit (now (s .entry)) ∷ []) [] ⌝ }

@@ -1,5 +1,5 @@
-// What the program `roadsheet` does: a table file from standard input, its page to standard output. The buffer is longer than the 12,649 bytes
-// that decide every input's page, so that a longer input needs no more of it.
+// What the program `roadsheet` does: a table file from standard input, its page to standard output. 12,649 bytes always decide the page
+// (`prefix-prints`), so input beyond the buffer cannot change it.
 use libc::STDIN_FILENO;
 use libc::STDOUT_FILENO;
 use model::PAGE;

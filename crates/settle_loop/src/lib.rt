@@ -12,9 +12,9 @@ ghost use Rattle.model.specs.Checks.{reportRounds};
 ghost use Rattle.theory_rounds.specs.Search.{Searched, Settleable, Settlement};
 ghost use Rattle.settle_sums.specs.Sums.{Carried};
 
-// The settling loop along the rows of d: rounds from the start, which `out` holds, until one changes no sector. At first there are no sums, and
-// all of the start is rise. The count that it returns with the amounts is the least settling index, and is never above the budget; without
-// one it refuses with 9.
+// The settling loop along the rows of d: rounds from the start, which `out` holds, until one changes no sector. Before the first
+// round the sums are 0, and the whole start counts as a rise. The count that it returns with the amounts is the least settling index, and is
+// at most the budget; without one it refuses with 9.
 fn run_turns(
     n: usize,
     d: &[u64],

@@ -13,8 +13,8 @@ ghost use Rattle.theory_rounds.specs.Bounds.{sumLimit, Narrow};
 ghost use Rattle.settle_sums.specs.Sums.{Carried, HasSum, taken};
 ghost use Rattle.settle_round.specs.Advance.{advanced};
 
-// Every sector's start and what industry takes of it, into `out`, and by how much it rose. Answers how far sectors moved: 0 where none did, else
-// a number that is nowhere below a rise.
+// Every sector's start and what industry takes of it, into `out`, and by how much it rose. Returns 0 if no sector changed, otherwise an upper
+// bound of all rises.
 fn advance(n: usize, start: &[u64], sums: &[u64], out: &mut [u64], rises: &mut [u64]) -> u64
     requires { ⌜ (length (now start) ≡ n) × (length (now out) ≡ n) × (length (now rises) ≡ n) ⌝ }
     requires { ⌜ ((i : ℕ) → i < n → HasSum (now sums) i × (taken (now sums) i ≤ productionLimit)) ⌝ }
@@ -37,8 +37,7 @@ fn advance(n: usize, start: &[u64], sums: &[u64], out: &mut [u64], rises: &mut [
 
 // One round more along the rows of d, from `out` to `out`: every sector's start, and what industry takes of it at the amounts of the round
 // before. The weighted sums of those amounts are the sums of the round before it and what the rises since then add: rises are small, so that
-// their products are cheap where those of the amounts are not. Answers 0 where the round changed no sector, else a number that is nowhere below
-// a rise.
+// their products are cheap where those of the amounts are not. Returns 0 if no sector changed, otherwise an upper bound of all rises.
 pub fn turn(
     n: usize,
     d: &[u64],

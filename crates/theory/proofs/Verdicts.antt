@@ -151,7 +151,7 @@ module _ (ps : List Check) {a : Answer} (said : report a ≡ verdict ps []) wher
   pub answered-stop : (qs : List Check) (ks : List ℕ) {q p : ℕ} → a ≡ Refused q p → refuses (length ks) q p ≡ verdict (ps ++ qs) ks
   answered-stop qs ks e = sym (refuse-on ps qs ks _ _ (sym said ∙ ap report e))
 
-  -- a refusal that is handed on as it was answered
+  -- a refusal that is returned as it was answered
   pub answered-end : (qs : List Check) {q p : ℕ} → a ≡ Refused q p → report a ≡ verdict (ps ++ qs) []
   answered-end qs e = ap report e ∙ answered-stop qs [] e
 

@@ -1,5 +1,5 @@
 -- `settle_round::advance` meets its contract: out has the new amounts below i and the old ones from i on, rises has how much the first i rose, and
--- moved is 0 where these are the same, and nowhere below a rise of them. Assumes nothing.
+-- moved is 0 where these are the same, and at least each rise of them. Assumes nothing.
 use mathlib.Core.Bool.{Bool, _&&_}
 use mathlib.Core.Path.{_≡_, refl, sym, ap, ap₂, subst⁻¹, _∙_}
 use Prim.Native.Nat.{ℕ, _+_, _≤_, _<_, _-_}
