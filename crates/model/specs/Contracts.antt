@@ -79,10 +79,12 @@ pub record Slices : Type 0 where
   pub production : Cells
   pub rises : Cells
 
+-- by their order in a call
 abbrev pub slicesOf : (x f e m v p w : Cells) → Slices
 slicesOf x f e m v p w =
     record { flows = x; finalDemand = f; exports = e; imports = m; valueAdded = v; production = p; rises = w }
 
+-- "each of six columns"
 abbrev pub columnsOf : Slices → List Cells
 columnsOf s = s .finalDemand ∷ s .exports ∷ s .imports ∷ s .valueAdded ∷ s .production ∷ s .rises ∷ []
 

@@ -10,6 +10,7 @@ use Rattle.model.specs.Numbers.{Cells, Sheet, one, sum, cell, at}
 abbrev pub sectorLimit : ℕ
 sectorLimit = 40
 
+-- n is such a number
 abbrev pub fewSectors : ℕ → Bool
 fewSectors n = leb 1 n && leb n sectorLimit
 
