@@ -11,8 +11,7 @@ use borrow.Author.Tests.{lt-ltb, le-ltb, eq-eqb, ne-eqb}
 use lib.ListN.{length, set, take, drop, replicate, length-set, length-replicate}
 use lib.Seq.{take-set-lt, take-set-le, drop-set-lt, drop-set-add}
 use Rattle.model.specs.Table.{sectorLimit, sheetLimit}
-use Rattle.model.specs.File.{Entry, Reading, flowsOf, columnOf, cellLimit, wordLimit}
-use Rattle.theory_files.specs.Files.{Within}
+use Rattle.model.specs.File.{Entry, Within, Reading, flowsOf, columnOf, cellLimit, wordLimit}
 use Rattle.file_walk.specs.Steps.{Held}
 
 -- a row starts at most 1,560 cells in

@@ -6,10 +6,9 @@ use mathlib.Core.Path.{_≡_}
 use Prim.Native.Nat.{ℕ, suc, _*_, _≤_, _<_}
 use lib.ListN.{length, take, drop}
 use Rattle.model.specs.Table.{sectorLimit, sheetLimit}
-use Rattle.model.specs.File.{Entry, kindAt, wholeAt, namedBefore, Reading, walk, reading, flowsRead, columnRead, cellLimit, wordLimit}
+use Rattle.model.specs.File.{Entry, Within, kindAt, wholeAt, namedBefore, Reading, walk, reading, flowsRead, columnRead, cellLimit, wordLimit}
 use Rattle.model.specs.declared.TableRead.{TableRead}
 use Rattle.model.specs.declared.TableRead.the-variants.{Read, Refused}
-use Rattle.theory_files.specs.Files.{Within}
 use Rattle.file_records.specs.Marks.{marked}
 use Rattle.file_walk.specs.declared.Step.{Step}
 use Rattle.file_walk.specs.declared.Step.the-variants.{Stop, End, Cell}

@@ -17,8 +17,7 @@ ghost use mathlib.Core.Path.{_≡_};
 ghost use Prim.Native.Nat.{ℕ, _≤_};
 ghost use lib.ListN.{length, replicate};
 ghost use Rattle.model.specs.Table.{sectorLimit};
-ghost use Rattle.model.specs.File.{Entry, kindAt, Reading, walk as walkFrom, reading, answerOf, cellLimit, wordLimit};
-ghost use Rattle.theory_files.specs.Files.{Within};
+ghost use Rattle.model.specs.File.{Entry, Within, kindAt, Reading, walk as walkFrom, reading, answerOf, cellLimit, wordLimit};
 ghost use Rattle.file_walk.specs.Steps.{Held, Kept, Begun, Naming, Asked, Ends, Opened};
 
 // What the walk does at a record: it stops with a refusal, it ends, or it takes a named cell and goes on.

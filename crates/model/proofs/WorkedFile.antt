@@ -3,7 +3,10 @@ use mathlib.Core.Path.{_≡_, refl}
 use mathlib.Core.List.{List, [], _∷_, map, reverse}
 use Prim.Native.Nat.{ℕ}
 use lib.ListN.{length, take}
-use Rattle.model.specs.File.{Entry, encode, fileOf, wholeAt, insideAt, entryAt, Reading, walk, reading, flowsOf, columnOf}
+use Rattle.model.specs.Table.{Table, tableOf}
+use Rattle.model.specs.Checks.{Report, accepts, refuses}
+use Rattle.model.specs.File.{Entry, encode, fileOf, wholeAt, insideAt, entryAt, Reading, walk, reading, flowsOf, columnOf, fileLimit}
+use Rattle.model.specs.Writer.{tableEntries, written, writerReport, returned}
 
 abbrev pub naming : ℕ → ℕ → ℕ → Entry
 naming word position amount = record { word = word; position = position; amount = amount }
@@ -28,6 +31,31 @@ pub worked-file :
 unfolding encode fileOf wholeAt insideAt entryAt walk reading
 worked-file = (refl, refl, refl, refl)
 
+-- ---- the writer
+abbrev workedTable : List ℕ → Table
+workedTable rises =
+    tableOf 2 (100 ∷ 400 ∷ 300 ∷ 600 ∷ [])
+    ((500 ∷ 900 ∷ []) ∷ (250 ∷ 560 ∷ []) ∷ (250 ∷ 360 ∷ []) ∷ (600 ∷ 1000 ∷ []) ∷ (1000 ∷ 2000 ∷ []) ∷ rises ∷ [])
+
+-- Theorem, for the reader: the worked table is written as that file, reading it returns the table, and the answer tells its 91 bytes
+pub worked-written :
+    (written (workedTable (0 ∷ 0 ∷ [])) ≡ fileOf 2 entries)
+    × (returned (reading (written (workedTable (0 ∷ 0 ∷ [])))) ≡ workedTable (0 ∷ 0 ∷ []))
+    × (writerReport (workedTable (0 ∷ 0 ∷ [])) fileLimit ≡ accepts (91 ∷ []))
+unfolding encode fileOf wholeAt insideAt entryAt walk reading tableEntries written writerReport
+worked-written = (refl, refl, refl)
+
+-- a table of one sector in its bytes: only x and the rise are not 0. Rises are asked by 3 too, after X, and all bytes are lent
+pub small-written :
+    _≡_ {A = List ℕ} (written (tableOf 1 (258 ∷ []) ((0 ∷ []) ∷ (0 ∷ []) ∷ (0 ∷ []) ∷ (0 ∷ []) ∷ (0 ∷ []) ∷ (1000000000 ∷ []) ∷ [])))
+    (1 ∷ 1 ∷ 2 ∷ 1 ∷ 1 ∷ 0 ∷ 0 ∷ 1 ∷ 2 ∷ 9 ∷ 1 ∷ 59 ∷ 154 ∷ 202 ∷ 0 ∷ 8 ∷ [])
+    × (writerReport (workedTable (0 ∷ 1000000001 ∷ [])) fileLimit ≡ refuses 1 3 15)
+    × (writerReport (workedTable (0 ∷ 0 ∷ [])) 91 ≡ refuses 1 2 0)
+    × (writerReport (workedTable (0 ∷ [])) fileLimit ≡ refuses 1 2 0)
+unfolding encode fileOf tableEntries written writerReport
+small-written = (refl, refl, refl, refl)
+
+-- ---- files that are refused, and files of few bytes
 -- a file, and what the paper says of it
 pub record Row : Type 0 where
   pub file : List ℕ

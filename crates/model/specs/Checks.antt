@@ -13,11 +13,13 @@ use Rattle.model.specs.declared.Outcome.{Outcome}
 use Rattle.model.specs.declared.Outcome.the-variants.{Settled, Refused as Outcome·Refused}
 use Rattle.model.specs.declared.TableRead.{TableRead}
 use Rattle.model.specs.declared.TableRead.the-variants.{Read, Refused as TableRead·Refused}
+use Rattle.model.specs.declared.TableWritten.{TableWritten}
+use Rattle.model.specs.declared.TableWritten.the-variants.{Written, Refused as TableWritten·Refused}
 use Rattle.model.specs.declared.PageWritten.{PageWritten}
-use Rattle.model.specs.declared.PageWritten.the-variants.{Written, Refused as PageWritten·Refused}
+use Rattle.model.specs.declared.PageWritten.the-variants.{Written as PageWritten·Written, Refused as PageWritten·Refused}
 
 -- An answer in the paper's numbers: its number, its place, and the other numbers of its answer, which are its counts: none, the rounds, the
--- sectors and the named cells of a file, or the bytes of a page
+-- sectors and the named cells of a file, or the bytes of a file or of a page that was written
 pub record Report : Type 0 where
   pub accepted : Bool
   pub number : ℕ
@@ -45,20 +47,27 @@ abbrev pub reportRead : TableRead → Report
 reportRead (Read n k) = accepts (n ∷ k ∷ [])
 reportRead (TableRead·Refused q p) = refuses 2 q p
 
+abbrev pub reportWritten : TableWritten → Report
+reportWritten (Written k) = accepts (k ∷ [])
+reportWritten (TableWritten·Refused q p) = refuses 1 q p
+
 abbrev pub reportPage : PageWritten → Report
-reportPage (Written k) = accepts (k ∷ [])
+reportPage (PageWritten·Written k) = accepts (k ∷ [])
 reportPage (PageWritten·Refused q p) = refuses 1 q p
 
 -- and an answer that was told as numbers, as it is to C: it is accepted where its number is 0
 abbrev pub reportTold : (number place : ℕ) (counts : List ℕ) → Report
 reportTold q p ks = record { accepted = eqb q 0; number = q; place = p; counts = ks }
 
--- the count of rounds of a call that has one, and the sectors that a reader tells
+-- the count of rounds of a call that has one, the sectors that a reader tells, and the bytes that a writer tells
 abbrev pub roundsOf : Report → ℕ
 roundsOf r = cell (r .counts) 0
 
 abbrev pub sectorsOf : Report → ℕ
 sectorsOf r = cell (r .counts) 0
+
+abbrev pub bytesOf : Report → ℕ
+bytesOf r = cell (r .counts) 0
 
 -- A check: its number, the place of its first cell, how many cells it has, and a test of each
 pub record Check : Type 0 where

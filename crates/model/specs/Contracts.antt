@@ -2,18 +2,20 @@
 -- of its slices after the call. A call says it of `report answer`, its C function of `reportTold number place counts`. No result is left open:
 -- number, place, counts and every lent cell are those of the definitions.
 use mathlib.Core.Path.{_≡_}
+use mathlib.Core.Logic.{_↔_}
 use mathlib.Core.Bool.{true}
 use mathlib.Core.List.{List, [], _∷_, map}
 use Prim.Native.Nat.{ℕ, _*_, _≤_}
-use lib.ListN.{length, getD, replicate}
+use lib.ListN.{length, getD, take, replicate}
 use Rattle.model.specs.Numbers.{Cells, cell, at, transposed}
-use Rattle.model.specs.Table.{Table}
+use Rattle.model.specs.Table.{Table, tableOf}
 use Rattle.model.specs.Bytes.{Bytes}
 use Rattle.model.specs.Rounds.{settled, Settles, impliedDemand, inducedValueAdded, inducedImports, inverse, dispersion}
-use Rattle.model.specs.Checks.{Report, accepts, output, reportRead, roundsOf, sectorsOf}
+use Rattle.model.specs.Checks.{Report, accepts, verdict, output, reportRead, roundsOf, sectorsOf, bytesOf, tableAmounts}
 use Rattle.model.specs.Calls.{coefficientsReport, inputCoefficients, valueAddedCoefficients, importCoefficients, domesticCoefficients, domesticDemands, productionReport, priceReport, impliedReport, inducedReport, inverseReport}
 use Rattle.model.specs.Promises.{Distinguishes, Accurate, AccuratePrices, Returns, NotAbove}
-use Rattle.model.specs.File.{Reading, called, answerOf, flowsRead, columnRead, columnWord}
+use Rattle.model.specs.File.{Entry, Reading, reading, called, answerOf, flowsRead, columnRead, columnWord, fileLimit}
+use Rattle.model.specs.Writer.{written, fileBytes, writerReport, InForm, returned}
 use Rattle.model.specs.Page.{pageReport, pageBytes}
 
 -- Sheets from a table t: a, v, m, d and f
@@ -69,7 +71,7 @@ pub record Inverted (n : ℕ) (d : Cells) (budget : ℕ) (sheet₀ power₀ sens
   pub powers : power ≡ output r (length power₀) (dispersion n (at n (inverse n d budget)))
   pub sensitivities : sensitivity ≡ output r (length sensitivity₀) (dispersion n (transposed (at n (inverse n d budget))))
 
--- The slices that a table file is read into: x, F, E, M, V, X and the rises
+-- The slices that a table file is read into, or written from: x, F, E, M, V, X and the rises
 pub record Slices : Type 0 where
   pub flows : Cells
   pub finalDemand : Cells
@@ -113,6 +115,31 @@ pub record FileRead (file : Bytes) (s₀ : Slices) (marks₀ : Cells) (r : Repor
   pub delivered : Delivered (readingInto file s₀ marks₀) s₀ s
   pub beyond : Beyond (sectorsOf r) s
   pub cleared : marks ≡ replicate (length marks₀) 0
+
+-- the table in slices, with the rises as its last column
+abbrev pub tableFrom : ℕ → Slices → Table
+tableFrom n s = tableOf n (s .flows) (columnsOf s)
+
+-- What is promised of the file of the table t, which begins the 12,643 bytes that were lent: document 02, ticket 1
+pub record Archived (t : Table) (file lent : Bytes) : Type 0 where
+  pub fits : length file ≤ fileLimit
+  -- "Reading a written file returns the table"
+  pub returns : returned (reading file) ≡ t
+  -- it has the form, and is "the only file of this form for that table"
+  pub form : InForm file
+  pub only : (z : Bytes) → InForm z → returned (reading z) ≡ t → z ≡ file
+  -- "Two written files have equal bytes exactly when n and all cells are equal": the files, and all bytes that were lent
+  pub equalFiles : (m : ℕ) (u : Slices) → writerReport (tableFrom m u) fileLimit .accepted ≡ true → (file ≡ written (tableFrom m u)) ↔ (t ≡ tableFrom m u)
+  pub equalBytes : (m : ℕ) (u : Slices) → writerReport (tableFrom m u) fileLimit .accepted ≡ true → (lent ≡ fileBytes (tableFrom m u)) ↔ (t ≡ tableFrom m u)
+
+-- A table written as a file
+pub record FileWritten (n : ℕ) (s : Slices) (file₀ : Bytes) (r : Report) (file : Bytes) : Type 0 where
+  pub answer : r ≡ writerReport (tableFrom n s) (length file₀)
+  pub outputs : file ≡ output r (length file₀) (fileBytes (tableFrom n s))
+  pub archived : r .accepted ≡ true → Archived (tableFrom n s) (take (bytesOf r) file) file
+  -- "what was read from any accepted file whose amounts pass question 3" is accepted
+  pub rewrites : (z : Bytes) (es : List Entry) → reading z ≡ Reading.table n es → returned (reading z) ≡ tableFrom n s
+      → verdict (tableAmounts (tableFrom n s)) [] .accepted ≡ true → length file₀ ≡ fileLimit → r .accepted ≡ true
 
 -- The page of a table file, written into a buffer of 2,851 bytes, and how many bytes it has
 pub record PagePrinted (file out₀ : Bytes) (r : Report) (out : Bytes) : Type 0 where

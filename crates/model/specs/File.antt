@@ -1,11 +1,11 @@
 -- Document 01, "The table file". A file is a list of bytes: a record for n, records for named cells in any order, and an end.
 use mathlib.Core.Bool.{Bool, true, false, _&&_, _||_, cond}
-use mathlib.Core.List.{List, [], _∷_, _++_}
-use Prim.Native.Nat.{ℕ, zero, suc, _+_, _*_, _-_, _/_, _%_}
+use mathlib.Core.List.{List, [], _∷_, _++_, map}
+use Prim.Native.Nat.{ℕ, zero, suc, _+_, _*_, _-_, _/_, _%_, _<_}
 use lib.Dec.{eqb, leb, ltb}
-use lib.ListN.{length, set, replicate}
-use Rattle.model.specs.Numbers.{Cells, all, cell}
-use Rattle.model.specs.Table.{sectorLimit, sheetLimit, fewSectors}
+use lib.ListN.{length, set, take, replicate}
+use Rattle.model.specs.Numbers.{Cells, all, tabulate, cell}
+use Rattle.model.specs.Table.{Table, tableOf, sectorLimit, sheetLimit, fewSectors}
 use Rattle.model.specs.Bytes.{Bytes}
 use Rattle.model.specs.declared.TableRead.{TableRead}
 use Rattle.model.specs.declared.TableRead.the-variants.{Read, Refused}
@@ -40,6 +40,12 @@ cellLimit = wordLimit * sectorLimit
 -- the word of a column by its kind
 abbrev pub columnWords : List ℕ
 columnWords = 0 ∷ 0 ∷ 0 ∷ columnWord 0 ∷ columnWord 1 ∷ columnWord 2 ∷ columnWord 3 ∷ columnWord 4 ∷ 0 ∷ columnWord 5 ∷ []
+
+-- e names a cell that a table of n sectors has
+pub record Within (n : ℕ) (e : Entry) : Type 0 where
+  pub known : e .word < wordLimit
+  pub row : e .word < sectorLimit → e .word < n
+  pub place : e .position < n
 
 -- "amounts are 4 bytes, highest first"
 abbrev pub amountBytes : ℕ → Bytes
@@ -152,6 +158,14 @@ flowsOf n (e ∷ es) = cond (ltb (e .word) sectorLimit) (set (flowsOf n es) (e .
 abbrev pub columnOf : (word : ℕ) → List Entry → Cells
 columnOf word [] = replicate sectorLimit 0
 columnOf word (e ∷ es) = cond (eqb (e .word) word) (set (columnOf word es) (e .position) (e .amount)) (columnOf word es)
+
+-- the table that a reading names, with the first k of its columns: of x the first n × n cells, of each column the first n
+module _ (k n : ℕ) (es : List Entry) where
+  abbrev cellsRead : ℕ → Cells
+  cellsRead c = take n (columnOf (columnWord c) es)
+
+  abbrev pub tableNamed : Table
+  tableNamed = tableOf n (take (n * n) (flowsOf n es)) (map cellsRead (tabulate k (λ c. c)))
 
 -- ---- the reader's call
 -- 2. "1,600 cells for x, 40 for each of six columns, 46 work words": by the lengths of the lent slices

@@ -1,4 +1,4 @@
--- The definitions of document 01, in its order.
+-- The definitions of document 01, in its order; those of document 02 after what they stand on.
 pub mod Numbers
 pub mod Bytes
 pub mod Table
@@ -7,6 +7,7 @@ pub mod Checks
 pub mod Calls
 pub mod Promises
 pub mod File
+pub mod Writer
 pub mod Text
 pub mod Figures
 pub mod Page

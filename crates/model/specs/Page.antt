@@ -1,16 +1,16 @@
 -- Document 01, "The printed sheet": what `roadsheet` prints for the bytes of a table file.
 use mathlib.Core.Bool.{cond}
-use mathlib.Core.List.{List, [], _∷_, _++_, map}
-use Prim.Native.Nat.{ℕ, zero, suc, _+_, _*_, _-_}
+use mathlib.Core.List.{List, [], _∷_, _++_}
+use Prim.Native.Nat.{ℕ, zero, suc, _+_, _*_}
 use lib.Dec.{eqb}
-use lib.ListN.{length, take, replicate}
+use lib.ListN.{length}
 use Rattle.model.specs.Numbers.{Cells, cell}
-use Rattle.model.specs.Table.{Table, tableOf, sectorLimit}
+use Rattle.model.specs.Table.{Table, sectorLimit}
 use Rattle.model.specs.Checks.{Report, roundsOf, verdict, single}
 use Rattle.model.specs.Calls.{domesticDemands}
 use Rattle.model.specs.Figures.{figuresProduction, figuresValue, figuresImports, figuresReport}
-use Rattle.model.specs.File.{Entry, Reading, reading, flowsOf, columnOf, columnWord}
-use Rattle.model.specs.Bytes.{Bytes, bytes}
+use Rattle.model.specs.File.{Entry, Reading, reading, tableNamed}
+use Rattle.model.specs.Bytes.{Bytes, bytes, padded}
 use Rattle.model.specs.Text.{decimal, line}
 
 abbrev pub headings : List Bytes
@@ -52,14 +52,9 @@ tablePage t =
     orRefusal r printed
 
 -- ---- the page of a file
-module _ (n : ℕ) (es : List Entry) where
-  -- the first n cells of column c
-  abbrev cellsRead : ℕ → Cells
-  cellsRead c = take n (columnOf (columnWord c) es)
-
-  -- the table that a reading names
-  abbrev pub tableRead : Table
-  tableRead = tableOf n (take (n * n) (flowsOf n es)) (map cellsRead (0 ∷ 1 ∷ 2 ∷ 3 ∷ 4 ∷ []))
+-- the table that a reading names: F, E, M, V and X are its first columns
+abbrev pub tableRead : ℕ → List Entry → Table
+tableRead = tableNamed 5
 
 -- the page of a reading: a file's own refusals too are one line
 abbrev pub readingPage : Reading → Bytes
@@ -78,7 +73,7 @@ pageLimit = 39 + sectorLimit * 70 + 12
 -- what it leaves in a buffer of that length: the page, and 0 in every byte after it
 unfoldable pub pageBytes : Bytes → Bytes
 unfolding page
-pageBytes s = page s ++ replicate (pageLimit - length (page s)) 0
+pageBytes s = padded pageLimit (page s)
 
 -- it asks 2 alone, the buffer's exact length; its count is how many bytes the page has
 unfoldable pub pageReport : (len : ℕ) (s : Bytes) → Report

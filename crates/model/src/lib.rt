@@ -40,6 +40,9 @@ pub const PRODUCTION: usize = VALUE_ADDED + SECTORS;
 
 pub const RISES: usize = PRODUCTION + SECTORS;
 
+// The bytes of the longest table file (`fileLimit`).
+pub const FILE: usize = 2 + (SHEET * 7 + COLUMNS * SECTORS * 6) + 1;
+
 // The printed page: the rounds that the program allows, and the bytes that hold every page (`pageBudget`, `pageLimit`).
 pub const BUDGET: u32 = 1400;
 
@@ -60,6 +63,12 @@ pub enum Outcome {
 // The reader of a table file: n and how many cells were named, or the number and the place of the first check that fails.
 pub enum TableRead {
     Read { sectors: usize, named: usize },
+    Refused { number: u8, place: usize },
+}
+
+// The writer of a table file: how many bytes the file has, or the number and the place of the first check that fails.
+pub enum TableWritten {
+    Written { length: usize },
     Refused { number: u8, place: usize },
 }
 

@@ -11,8 +11,7 @@ use lib.Dec.{eqb, leb, ltb}
 use lib.ListN.{length}
 use Rattle.model.specs.Numbers.{first, cell}
 use Rattle.model.specs.Table.{sectorLimit}
-use Rattle.model.specs.File.{Entry, recordLengths, columnWords, columnKinds, amountBytes, encode, amountFrom, kindAt, wholeAt, insideAt, entryAt, namedBefore, Reading, walk}
-use Rattle.theory_files.specs.Files.{Within}
+use Rattle.model.specs.File.{Entry, Within, recordLengths, columnWords, columnKinds, amountBytes, encode, amountFrom, kindAt, wholeAt, insideAt, entryAt, namedBefore, Reading, walk}
 use Rattle.theory.proofs.Lists.{first-before, and-true}
 
 -- two neighbouring bytes of an amount make one number

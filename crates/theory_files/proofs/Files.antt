@@ -10,8 +10,7 @@ use lib.Dec.{ltb}
 use lib.ListN.{length, length-append}
 use Rattle.model.specs.Numbers.{cell}
 use Rattle.model.specs.Table.{sectorLimit}
-use Rattle.model.specs.File.{Entry, encode, encodeAll, fileOf, wholeAt, namedBefore, Reading, walk, reading}
-use Rattle.theory_files.specs.Files.{Within}
+use Rattle.model.specs.File.{Entry, Within, encode, encodeAll, fileOf, wholeAt, namedBefore, Reading, walk, reading}
 use Rattle.theory_files.proofs.Encoding.{stands, step}
 
 -- each of a list of cells is one that a table of n sectors has, and none is one of `es` or one before it

@@ -11,8 +11,8 @@ use lib.ListN.{length, take}
 use lib.Seq.{length-take-le}
 use Rattle.model.specs.Numbers.{cell}
 use Rattle.model.specs.Table.{sectorLimit, fewSectors}
-use Rattle.model.specs.File.{Entry, kindAt, nextAt, wholeAt, insideAt, entryAt, namedBefore, Reading, walk, reading}
-use Rattle.theory_files.specs.Files.{inputLimit, Within}
+use Rattle.model.specs.File.{Entry, Within, kindAt, nextAt, wholeAt, insideAt, entryAt, namedBefore, Reading, walk, reading}
+use Rattle.theory_files.specs.Files.{inputLimit}
 use Rattle.theory.proofs.Lists.{and-true, from-one}
 use Rattle.theory_files.proofs.RecordKinds.{taken}
 use Rattle.theory_files.proofs.Prefixes.{prefix-answers}

@@ -9,9 +9,8 @@ use lib.Dec.{eqb, leb, ltb}
 use lib.ListN.{length, List·getD-eq-default}
 use Rattle.model.specs.Numbers.{cell}
 use Rattle.model.specs.Table.{sectorLimit}
-use Rattle.model.specs.File.{recordLengths, columnWords, kindAt, isFlow, nextAt, wholeAt, insideAt, entryAt, wordLimit}
+use Rattle.model.specs.File.{Within, recordLengths, columnWords, kindAt, isFlow, nextAt, wholeAt, insideAt, entryAt, wordLimit}
 use Rattle.theory.proofs.Lists.{first-before, and-true, from-one}
-use Rattle.theory_files.specs.Files.{Within}
 
 -- past the last kind there is no body
 pub no-kind : (k : ℕ) → 10 ≤ k → cell recordLengths k ≡ 0
