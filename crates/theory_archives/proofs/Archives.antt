@@ -4,10 +4,10 @@ use mathlib.Core.Bool.{Bool, true, false, cond, false≢true}
 use mathlib.Core.List.{List, [], _∷_, _++_, map, reverse, append-nil, append-assoc}
 use mathlib.Core.Logic.{_↔_}
 use mathlib.Core.Path.{_≡_, refl, sym, ap, ap₂, _∙_, subst}
-use Prim.Native.Nat.{ℕ, zero, suc, _+_, _*_, _-_, _≤_, _<_}
+use Prim.Native.Nat.{ℕ, zero, suc, _+_, _*_, _-_, _/_, _%_, _≤_, _<_}
 use native.Mathlib.Omega.{arith}
 use native.Mathlib.Nat.{le-refl, zero-add, add-zero, mul-le-mul, not-suc-le-zero, le-of-suc-le-suc, lt-of-lt-of-le}
-use borrow.Author.Tests.{ltb-true, lt-ltb, eqb-true, eq-eqb, le-leb}
+use borrow.Author.Tests.{ltb-true, ltb-false, lt-ltb, eqb-true, eq-eqb, le-leb}
 use lib.Dec.{eqb, ltb, lit<}
 use lib.ListN.{length, getD, take, replicate, length-append, length-replicate}
 use lib.Seq.{length-take-le, getD-take, ext-getD, take-at}
@@ -128,3 +128,112 @@ module _ (n : ℕ) (some : 1 ≤ n) (few : n ≤ sectorLimit) where
 
   column-length : (word : ℕ) (es : List Entry) → length (columnOf word es) ≡ sectorLimit
   column-length word = slice-length n few (columnOf word) (λ w. eqb w word) (λ w p. p) sectorLimit refl (λ e es. refl) (column-inside word) (column-once word)
+
+  -- a reading's table has slices of their lengths
+  pub named-fit : (es : List Entry) → Fit (tableNamed (length columnKinds) n es)
+  named-fit es = record {
+    sizes = record {
+      some = some;
+      few = few;
+      flows = length-take-le (n * n) (flowsOf n es) (subst (λ (m : ℕ). n * n ≤ m) (sym (flows-length es)) square);
+      columns = λ c h.
+          ap length (column-named (length columnKinds) n es c h)
+          ∙ length-take-le n (columnOf (columnWord c) es) (subst (λ (m : ℕ). n ≤ m) (sym (column-length (columnWord c) es)) few);
+    };
+    count = refl;
+  }
+
+  pub named-hold : (es : List Entry) → Distinct es → AllWithin n es → Holds es (tableNamed (length columnKinds) n es)
+  named-hold es d a = record {
+    flows = λ i j h l.
+        sym
+        (getD-take (n * n) (flowsOf n es) (i * n + j) 0 (cell-in n i j h l)
+        ∙ slice-cell n few (flowsOf n) (λ w. ltb w sectorLimit) (λ w p. w * n + p) sheetLimit refl (λ e es. refl) flows-inside flows-once es d a
+        (named i j) (record { known = omega (arith, few); row = λ _. h; place = l }) (lt-ltb i sectorLimit (omega (arith, few))));
+    columns = λ c j h l.
+        sym
+        (ap (λ (s : List ℕ). cell s j) (column-named (length columnKinds) n es c h)
+        ∙ getD-take n (columnOf (columnWord c) es) j 0 l
+        ∙ slice-cell n few (columnOf (columnWord c)) (λ w. eqb w (columnWord c)) (λ w p. p) sectorLimit refl (λ e es. refl) (column-inside (columnWord c)) (column-once (columnWord c)) es d a
+        (named (columnWord c) j) (record { known = omega arith; row = λ g. absurd (omega arith); place = l }) (eq-eqb (columnWord c) (columnWord c) refl));
+  }
+    where
+      named : ℕ → ℕ → Entry
+      named w p = record { word = w; position = p; amount = 0 }
+
+-- ---- cells alike, tables alike
+table-same : (n : ℕ) (x y : List ℕ) (cs ds : List (List ℕ)) (es : List Entry) → Fit (tableOf n x cs) → Fit (tableOf n y ds)
+    → Holds es (tableOf n x cs) → Holds es (tableOf n y ds) → tableOf n x cs ≡ tableOf n y ds
+table-same n x y cs ds es f g h k = ap₂ (tableOf n) flows columns
+  where
+    some : 1 ≤ n
+    some = f .sizes .some
+
+    flows : x ≡ y
+    flows =
+        ext-getD 0 x y (f .sizes .flows ∙ sym (g .sizes .flows))
+        (λ i l.
+        let low = subst (λ (m : ℕ). i < m) (f .sizes .flows) l in
+        let row = place-row n i some low in
+        let col = place-column n i some in
+        sym (place-cell n x i) ∙ sym (h .flows (i / n) (i % n) row col) ∙ k .flows (i / n) (i % n) row col ∙ place-cell n y i)
+
+    cells : (c : ℕ) → c < length columnKinds → getD cs c [] ≡ getD ds c []
+    cells c l =
+        let p = f .sizes .columns c (subst (λ (m : ℕ). c < m) (sym (f .count)) l) in
+        let q = g .sizes .columns c (subst (λ (m : ℕ). c < m) (sym (g .count)) l) in
+        ext-getD 0 (getD cs c []) (getD ds c []) (p ∙ sym q) (λ j b. let low = subst (λ (m : ℕ). j < m) p b in sym (h .columns c j l low) ∙ k .columns c j l low)
+
+    columns : cs ≡ ds
+    columns = ext-getD [] cs ds (f .count ∙ sym (g .count)) (λ c l. cells c (subst (λ (m : ℕ). c < m) (f .count) l))
+
+holds-reversed : (es : List Entry) (t : Table) → Holds (reverse es) t → Holds es t
+holds-reversed es t h = record { flows = λ i j l g. back (i * sectorLimit + j) ∙ h .flows i j l g; columns = λ c j l g. back (columnWord c * sectorLimit + j) ∙ h .columns c j l g }
+  where
+    back : (r : ℕ) → amountAt es r ≡ amountAt (reverse es) r
+    back r = sym (amount-reversed es [] r ∙ add-zero (amountAt es r))
+
+-- named cells of one table have the same amounts
+same : (n : ℕ) (few : n ≤ sectorLimit) (es fs : List Entry) (t : Table) → t .sectors ≡ n → Holds es t → Holds fs t → Same n few es fs
+same n few es fs t size h k e w = go (ltb (e .word) sectorLimit) refl
+  where
+    inside : (i : ℕ) → i < n → i < t .sectors
+    inside i l = subst (λ (m : ℕ). i < m) (sym size) l
+
+    go : (b : Bool) → ltb (e .word) sectorLimit ≡ b → amountAt es (order e) ≡ amountAt fs (order e)
+    go true l =
+        let row = inside (e .word) (w .row (ltb-true (e .word) sectorLimit l)) in
+        let col = inside (e .position) (w .place) in
+        h .flows (e .word) (e .position) row col ∙ sym (k .flows (e .word) (e .position) row col)
+    go false l =
+        let low = ltb-false (e .word) sectorLimit l in
+        let high = w .known in
+        let c = e .word - sectorLimit in
+        let word : columnWord c ≡ e .word = omega arith in
+        let col = inside (e .position) (w .place) in
+        ap (λ (v : ℕ). amountAt es (v * sectorLimit + e .position)) (sym word)
+        ∙ h .columns c (e .position) (omega arith) col
+        ∙ sym (k .columns c (e .position) (omega arith) col)
+        ∙ ap (λ (v : ℕ). amountAt fs (v * sectorLimit + e .position)) word
+
+-- ---- a file of the form
+module _ (n : ℕ) (es : List Entry) (some : 1 ≤ n) (few : n ≤ sectorLimit) (ascends : Ascending n 0 es) where
+  all-fresh : Fresh n [] es
+  all-fresh = fresh n few 0 [] es tt ascends
+
+  -- it is read back
+  pub form-read : reading (fileOf n es) ≡ Reading.table n (reverse es)
+  form-read = read-back n es some few all-fresh
+
+  form-hold : Holds es (tableNamed (length columnKinds) n (reverse es))
+  form-hold =
+      let d = distinct-reversed n es [] all-fresh (tt, tt) in
+      holds-reversed es (tableNamed (length columnKinds) n (reverse es)) (named-hold n some few (reverse es) (d .0) (d .1))
+
+  -- and reads as a table whose only file of this form it is
+  pub form-written : fileOf n es ≡ written (tableNamed (length columnKinds) n (reverse es))
+  unfolding written
+  form-written =
+      let t = tableNamed (length columnKinds) n (reverse es) in
+      let f = named-fit n some few (reverse es) in
+      ap (fileOf n) (told n few 0 es (tableEntries t) ascends (entries-ascending t f) (same n few es (tableEntries t) t refl form-hold (entries-hold t f)))
