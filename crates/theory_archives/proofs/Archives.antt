@@ -237,3 +237,87 @@ module _ (n : ℕ) (es : List Entry) (some : 1 ≤ n) (few : n ≤ sectorLimit) 
       let t = tableNamed (length columnKinds) n (reverse es) in
       let f = named-fit n some few (reverse es) in
       ap (fileOf n) (told n few 0 es (tableEntries t) ascends (entries-ascending t f) (same n few es (tableEntries t) t refl form-hold (entries-hold t f)))
+
+-- ---- the file of a table
+-- the offset at which a reading found kind 8 to end, of 12,643 bytes
+abbrev endOf : Reading → ℕ
+endOf (Reading.refused q p) = p
+endOf (Reading.table n es) = fileLimit
+
+end-is : (n : ℕ) (es : List Entry) (end : ℕ) (rest : List ℕ) → end + length rest ≡ fileLimit → endOf (ended n es end rest) ≡ end
+end-is n es end [] e = omega arith
+end-is n es end (_ ∷ _) e = refl
+
+module _ (t : Table) (f : Fit t) where
+  abbrev zeros : List ℕ
+  zeros = replicate (fileLimit - length (written t)) 0
+
+  pub written-read : reading (written t) ≡ Reading.table (t .sectors) (reverse (tableEntries t))
+  unfolding written
+  written-read = form-read (t .sectors) (tableEntries t) (f .sizes .some) (f .sizes .few) (entries-ascending t f)
+
+  -- Theorem, for the reader: "Reading a written file returns the table"
+  pub written-returns : returned (reading (written t)) ≡ t
+  written-returns =
+      let es = tableEntries t in
+      ap returned written-read
+      ∙ table-same (t .sectors) _ (t .flows) _ (t .columns) es (named-fit (t .sectors) (f .sizes .some) (f .sizes .few) (reverse es)) f
+      (form-hold (t .sectors) es (f .sizes .some) (f .sizes .few) (entries-ascending t f)) (entries-hold t f)
+
+  -- Theorem, for the reader: it never exceeds 12,643 bytes
+  pub written-fits : length (written t) ≤ fileLimit
+  written-fits = accepted-length (written t) (t .sectors) (reverse (tableEntries t)) written-read
+
+  -- Theorem, for the reader: it has the form
+  pub written-form : InForm (written t)
+  unfolding written
+  written-form = record {
+    sectors = t .sectors;
+    entries = tableEntries t;
+    sized = rw (le-leb 1 (t .sectors) (f .sizes .some)) (le-leb (t .sectors) sectorLimit (f .sizes .few));
+    ascending = entries-ascending t f;
+    bytes = refl;
+  }
+
+  -- the bytes that are lent, read as a whole
+  bytes-read : reading (fileBytes t) ≡ ended (t .sectors) (reverse (tableEntries t)) (length (written t)) zeros
+  unfolding fileBytes written fileOf
+  bytes-read =
+      let es = tableEntries t in
+      ap (λ (s : List ℕ). reading (1 ∷ t .sectors ∷ s)) (append-assoc (encodeAll es) (8 ∷ []) zeros)
+      ∙ read-then (t .sectors) es zeros (f .sizes .some) (f .sizes .few) (fresh (t .sectors) (f .sizes .few) 0 [] es tt (entries-ascending t f))
+      ∙ ap (λ (k : ℕ). ended (t .sectors) (reverse es) k zeros) (omega (arith, length-append (encodeAll es) (8 ∷ [])))
+
+  bytes-end : endOf (reading (fileBytes t)) ≡ length (written t)
+  bytes-end =
+      ap endOf bytes-read
+      ∙ end-is (t .sectors) (reverse (tableEntries t)) (length (written t)) zeros
+      (omega (arith, written-fits, length-replicate {A = ℕ} (fileLimit - length (written t)) 0))
+
+  pub bytes-file : take (length (written t)) (fileBytes t) ≡ written t
+  unfolding fileBytes
+  bytes-file = take-at (written t) zeros (length (written t)) refl
+
+-- Theorem, for the reader: a file of the form that reads as a table is that table's written file
+pub only-form : (z : List ℕ) → InForm z → (t : Table) → returned (reading z) ≡ t → z ≡ written t
+only-form z q t e =
+    let n = q .sectors in
+    let es = q .entries in
+    let size = from-one n sectorLimit (q .sized) in
+    let reads : returned (reading z) ≡ tableNamed (length columnKinds) n (reverse es) =
+    ap (λ (s : List ℕ). returned (reading s)) (q .bytes) ∙ ap returned (form-read n es (size .0) (size .1) (q .ascending))
+    in
+    q .bytes ∙ form-written n es (size .0) (size .1) (q .ascending) ∙ ap written (sym reads ∙ e)
+
+-- Theorems, for the reader: "Two written files have equal bytes exactly when n and all cells are equal", of the files and of all bytes that are lent
+module _ (t u : Table) (f : Fit t) (g : Fit u) where
+  pub written-once : (written t ≡ written u) ↔ (t ≡ u)
+  written-once = (λ e. sym (written-returns t f) ∙ ap (λ (s : List ℕ). returned (reading s)) e ∙ written-returns u g, ap written)
+
+  pub bytes-once : (fileBytes t ≡ fileBytes u) ↔ (t ≡ u)
+  bytes-once = (
+    λ e.
+        let long : length (written t) ≡ length (written u) = sym (bytes-end t f) ∙ ap (λ (s : List ℕ). endOf (reading s)) e ∙ bytes-end u g in
+        written-once .0 (sym (bytes-file t f) ∙ ap₂ take long e ∙ bytes-file u g),
+    ap fileBytes,
+  )
