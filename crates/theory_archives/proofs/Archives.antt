@@ -9,7 +9,7 @@ use native.Mathlib.Omega.{arith}
 use native.Mathlib.Nat.{le-refl, zero-add, add-zero, mul-le-mul, not-suc-le-zero, le-of-suc-le-suc, lt-of-lt-of-le}
 use borrow.Author.Tests.{ltb-true, ltb-false, lt-ltb, eqb-true, eq-eqb, le-leb}
 use lib.Dec.{eqb, ltb, lit<}
-use lib.ListN.{length, getD, take, replicate, length-append, length-replicate}
+use lib.ListN.{length, getD, take, replicate, length-append, length-replicate, List·getD-map}
 use lib.Seq.{length-take-le, getD-take, ext-getD, take-at}
 use Rattle.model.specs.Numbers.{Cells, tabulate, cell, at}
 use Rattle.model.specs.Table.{Table, tableOf, column, sectorLimit, sheetLimit, fewSectors}
@@ -19,12 +19,13 @@ use Rattle.model.specs.File.{Entry, Within, encodeAll, fileOf, fileLimit, colum
 use Rattle.model.specs.Writer.{rows, wordsEntries, tableEntries, written, fileBytes, writerChecks, writerReport, order, Ascending, InForm, returned}
 use Rattle.model.specs.Contracts.{Slices, columnsOf, tableFrom, Archived, FileWritten}
 use Rattle.theory.specs.Slices.{Columns}
-use Rattle.theory.proofs.Lists.{from-one}
+use Rattle.theory.proofs.Lists.{from-one, all-passed}
 use Rattle.theory.proofs.Matrices.{place-once, place-row, place-column, place-cell}
 use Rattle.theory.proofs.Sums.{cell-in}
-use Rattle.theory.proofs.Verdicts.{AllPass, accepted-all, accepted-counts, pass-on, size-passes, lengths-pass}
+use Rattle.theory.proofs.Verdicts.{AllPass, accepted-all, all-accepted, accepted-counts, output-given, size-passes, lengths-pass}
 use Rattle.theory_tables.specs.Tables.{TableSizes, TableAmounts}
 use Rattle.theory_tables.proofs.Tables.{table-sizes, table-amounts}
+use Rattle.theory_files.specs.Files.{inputLimit}
 use Rattle.theory_files.proofs.Files.{Fresh, ended, read-then, read-back}
 use Rattle.theory_files.proofs.Readings.{AllWithin, Answered, reading-answered}
 use Rattle.theory_files.proofs.Lengths.{accepted-length}
@@ -321,3 +322,77 @@ module _ (t u : Table) (f : Fit t) (g : Fit u) where
         written-once .0 (sym (bytes-file t f) ∙ ap₂ take long e ∙ bytes-file u g),
     ap fileBytes,
   )
+
+-- ---- the call
+-- questions 1 and 2 say that a table fits, and the other way round
+module _ (n : ℕ) (s : Slices) (len : ℕ) where
+  abbrev t : Table
+  t = tableFrom n s
+
+  pub accepted-fit : AllPass (writerChecks t len) → Fit t × TableAmounts t
+  accepted-fit (p, (q, (_, amounts))) = (record { sizes = table-sizes t [] [] p q .0; count = refl }, table-amounts t amounts)
+
+  fit-accepted : Fit t → len ≡ fileLimit → AllPass (tableAmounts t) → AllPass (writerChecks t len)
+  fit-accepted f e amounts = (
+    size-passes n (length (s .flows) ∷ []) (map length (columnsOf s)) (f .sizes .some) (f .sizes .few),
+    (
+      lengths-pass n (length (s .flows) ∷ []) (map length (columnsOf s)) (rw (eq-eqb (n * n) (length (s .flows)) (sym (f .sizes .flows))) refl)
+      (all-passed (eqb n) (map length (columnsOf s)) (λ c h. eq-eqb n _ (sym (List·getD-map length (columnsOf s) c [] ∙ f .sizes .columns c h)))),
+      (λ _ _. eq-eqb fileLimit len (sym e), amounts),
+    ),
+  )
+
+-- what an accepted call knows of its table
+report-fit : (n : ℕ) (s : Slices) (len : ℕ) → writerReport (tableFrom n s) len .accepted ≡ true → Fit (tableFrom n s)
+unfolding writerReport
+report-fit n s len a = accepted-fit n s len (accepted-all (writerChecks (tableFrom n s) len) (length (written (tableFrom n s)) ∷ []) a) .0
+
+report-counts : (t : Table) (len : ℕ) → writerReport t len .accepted ≡ true → writerReport t len .counts ≡ length (written t) ∷ []
+unfolding writerReport
+report-counts t len a = accepted-counts (writerChecks t len) (length (written t) ∷ []) a
+
+-- Theorem, for the reader: what is promised of the file of a table that is accepted
+pub archived : (n : ℕ) (s : Slices) → Fit (tableFrom n s) → Archived (tableFrom n s) (written (tableFrom n s)) (fileBytes (tableFrom n s))
+archived n s f =
+    let t = tableFrom n s in
+    record {
+      fits = written-fits t f;
+      returns = written-returns t f;
+      form = written-form t f;
+      only = λ z q. only-form z q t;
+      equalFiles = λ m u a. written-once t (tableFrom m u) f (report-fit m u fileLimit a);
+      equalBytes = λ m u a. bytes-once t (tableFrom m u) f (report-fit m u fileLimit a);
+    }
+
+-- Theorem, for the reader: "what was read from any accepted file whose amounts pass question 3" is accepted
+rewritten : (n : ℕ) (s : Slices) (z : List ℕ) (es : List Entry) → reading z ≡ Reading.table n es → returned (reading z) ≡ tableFrom n s
+    → AllPass (tableAmounts (tableFrom n s)) → writerReport (tableFrom n s) fileLimit .accepted ≡ true
+unfolding writerReport
+rewritten n s z es e same amounts =
+    let answered : Answered inputLimit (Reading.table n es) = subst (Answered inputLimit) e (reading-answered z) in
+    let fit : Fit (tableFrom n s) = subst Fit (sym (ap returned e) ∙ same) (named-fit n (answered .0) (answered .1) es) in
+    ap (λ (r : Report). r .accepted)
+    (all-accepted (writerChecks (tableFrom n s) fileLimit) (length (written (tableFrom n s)) ∷ []) (fit-accepted n s fileLimit fit refl amounts))
+
+-- what the call promises, of its answer and of the bytes that it leaves
+pub file-written : (n : ℕ) (s : Slices) {file₀ file : List ℕ} {r : Report} → r ≡ writerReport (tableFrom n s) (length file₀)
+    → file ≡ output r (length file₀) (fileBytes (tableFrom n s)) → FileWritten n s file₀ r file
+file-written n s {file₀} {file} {r} answer outputs =
+    record {
+      answer = answer;
+      outputs = outputs;
+      archived = λ a.
+          let accepted = sym (ap (λ (q : Report). q .accepted) answer) ∙ a in
+          let f = report-fit n s (length file₀) accepted in
+          let bytes : file ≡ fileBytes t = outputs ∙ output-given r (length file₀) (fileBytes t) a in
+          let count : bytesOf r ≡ length (written t) = ap bytesOf answer ∙ ap (λ (ks : List ℕ). cell ks 0) (report-counts t (length file₀) accepted) in
+          let part : take (bytesOf r) file ≡ written t = ap₂ take count bytes ∙ bytes-file t f in
+          rw (part, bytes) (archived n s f);
+      rewrites = λ z es e same amounts long.
+          ap (λ (q : Report). q .accepted) answer
+          ∙ ap (λ (k : ℕ). writerReport t k .accepted) long
+          ∙ rewritten n s z es e same (accepted-all (tableAmounts t) [] amounts);
+    }
+  where
+    t : Table
+    t = tableFrom n s
