@@ -14,10 +14,10 @@ use lib.Seq.{length-take-le, getD-take, ext-getD, take-at}
 use Rattle.model.specs.Numbers.{Cells, tabulate, cell, at}
 use Rattle.model.specs.Table.{Table, tableOf, column, sectorLimit, sheetLimit, fewSectors}
 use Rattle.model.specs.Bytes.{Bytes, padded}
-use Rattle.model.specs.Checks.{Report, accepts, verdict, output, bytesOf, tableAmounts}
-use Rattle.model.specs.File.{Entry, Within, encodeAll, fileOf, fileLimit, columnKinds, columnWord, Reading, reading, flowsOf, columnOf, tableNamed}
+use Rattle.model.specs.Checks.{Report, accepts, verdict, output, reportRead, bytesOf, tableAmounts}
+use Rattle.model.specs.File.{Entry, Within, encodeAll, fileOf, fileLimit, columnKinds, columnWord, Reading, reading, flowsOf, columnOf, tableNamed, fits, called, answerOf}
 use Rattle.model.specs.Writer.{rows, wordsEntries, tableEntries, written, fileBytes, writerChecks, writerReport, order, Ascending, InForm, returned}
-use Rattle.model.specs.Contracts.{Slices, columnsOf, tableFrom, Archived, FileWritten}
+use Rattle.model.specs.Contracts.{Slices, columnsOf, readingInto, Delivered, FileRead, tableFrom, Archived, FileWritten}
 use Rattle.theory.specs.Slices.{Columns}
 use Rattle.theory.proofs.Lists.{from-one, all-passed}
 use Rattle.theory.proofs.Matrices.{place-once, place-row, place-column, place-cell}
@@ -396,3 +396,30 @@ file-written n s {file₀} {file} {r} answer outputs =
   where
     t : Table
     t = tableFrom n s
+
+-- ---- the two calls
+-- Theorem, for the reader: `read_table` of the file, with slices of their lengths, tells n and leaves every cell of the table
+module _ (n : ℕ) (s : Slices) (f : Fit (tableFrom n s)) (s₀ s′ : Slices) (marks₀ marks : List ℕ) (r : Report)
+    (reads : FileRead (written (tableFrom n s)) s₀ marks₀ r s′ marks)
+    (lent : fits (length (s₀ .flows)) (map length (columnsOf s₀)) (length marks₀) ≡ true)
+  where
+  reading-into : readingInto (written (tableFrom n s)) s₀ marks₀ ≡ Reading.table n (reverse (tableEntries (tableFrom n s)))
+  unfolding called
+  reading-into = rw lent (written-read (tableFrom n s) f)
+
+  pub read-accepts : r ≡ accepts (n ∷ length (reverse (tableEntries (tableFrom n s))) ∷ [])
+  read-accepts = reads .answer ∙ ap (λ (o : Reading). reportRead (answerOf o)) reading-into
+
+  pub read-returns : tableOf n (take (n * n) (s′ .flows)) (map (take n) (columnsOf s′)) ≡ tableFrom n s
+  read-returns =
+      let d = subst (λ (o : Reading). Delivered o s₀ s′) reading-into (reads .delivered) in
+      rw (d .flows, d .finalDemand, d .exports, d .imports, d .valueAdded, d .production, d .rises)
+      (ap returned (sym (written-read (tableFrom n s) f)) ∙ written-returns (tableFrom n s) f)
+
+-- Theorem, for the reader: the 12,643 lent bytes as a whole are no table file, unless the file fills them: bytes follow its end
+pub bytes-follow : (t : Table) → Fit t → length (written t) < fileLimit → reading (fileBytes t) ≡ Reading.refused 15 (length (written t))
+bytes-follow t f h = bytes-read t f ∙ follow (fileLimit - length (written t)) (omega arith)
+  where
+    follow : (k : ℕ) → 0 < k → ended (t .sectors) (reverse (tableEntries t)) (length (written t)) (replicate k 0) ≡ Reading.refused 15 (length (written t))
+    follow zero l = absurd (not-suc-le-zero l)
+    follow (suc k) l = refl
