@@ -337,7 +337,7 @@ module _ (n : ℕ) (s : Slices) (len : ℕ) where
     size-passes n (length (s .flows) ∷ []) (map length (columnsOf s)) (f .sizes .some) (f .sizes .few),
     (
       lengths-pass n (length (s .flows) ∷ []) (map length (columnsOf s)) (rw (eq-eqb (n * n) (length (s .flows)) (sym (f .sizes .flows))) refl)
-      (all-passed (eqb n) (map length (columnsOf s)) (λ c h. eq-eqb n _ (sym (List·getD-map length (columnsOf s) c [] ∙ f .sizes .columns c h)))),
+          (all-passed (eqb n) (map length (columnsOf s)) (λ c h. eq-eqb n _ (sym (List·getD-map length (columnsOf s) c [] ∙ f .sizes .columns c h)))),
       (λ _ _. eq-eqb fileLimit len (sym e), amounts),
     ),
   )
@@ -403,18 +403,18 @@ module _ (n : ℕ) (s : Slices) (f : Fit (tableFrom n s)) (s₀ s′ : Slices) (
     (reads : FileRead (written (tableFrom n s)) s₀ marks₀ r s′ marks)
     (lent : fits (length (s₀ .flows)) (map length (columnsOf s₀)) (length marks₀) ≡ true)
   where
-  reading-into : readingInto (written (tableFrom n s)) s₀ marks₀ ≡ Reading.table n (reverse (tableEntries (tableFrom n s)))
-  unfolding called
-  reading-into = rw lent (written-read (tableFrom n s) f)
+    reading-into : readingInto (written (tableFrom n s)) s₀ marks₀ ≡ Reading.table n (reverse (tableEntries (tableFrom n s)))
+    unfolding called
+    reading-into = rw lent (written-read (tableFrom n s) f)
 
-  pub read-accepts : r ≡ accepts (n ∷ length (reverse (tableEntries (tableFrom n s))) ∷ [])
-  read-accepts = reads .answer ∙ ap (λ (o : Reading). reportRead (answerOf o)) reading-into
+    pub read-accepts : r ≡ accepts (n ∷ length (reverse (tableEntries (tableFrom n s))) ∷ [])
+    read-accepts = reads .answer ∙ ap (λ (o : Reading). reportRead (answerOf o)) reading-into
 
-  pub read-returns : tableOf n (take (n * n) (s′ .flows)) (map (take n) (columnsOf s′)) ≡ tableFrom n s
-  read-returns =
-      let d = subst (λ (o : Reading). Delivered o s₀ s′) reading-into (reads .delivered) in
-      rw (d .flows, d .finalDemand, d .exports, d .imports, d .valueAdded, d .production, d .rises)
-      (ap returned (sym (written-read (tableFrom n s) f)) ∙ written-returns (tableFrom n s) f)
+    pub read-returns : tableOf n (take (n * n) (s′ .flows)) (map (take n) (columnsOf s′)) ≡ tableFrom n s
+    read-returns =
+        let d = subst (λ (o : Reading). Delivered o s₀ s′) reading-into (reads .delivered) in
+        rw (d .flows, d .finalDemand, d .exports, d .imports, d .valueAdded, d .production, d .rises)
+        (ap returned (sym (written-read (tableFrom n s) f)) ∙ written-returns (tableFrom n s) f)
 
 -- Theorem, for the reader: the 12,643 lent bytes as a whole are no table file, unless the file fills them: bytes follow its end
 pub bytes-follow : (t : Table) → Fit t → length (written t) < fileLimit → reading (fileBytes t) ≡ Reading.refused 15 (length (written t))
