@@ -1,7 +1,7 @@
 -- What is promised of a written file: reading it returns the table, it is the only file of its form for that table, and equal bytes are equal
 -- tables. Assumes nothing.
 use mathlib.Core.Bool.{Bool, true, false, cond, false≢true}
-use mathlib.Core.List.{List, [], _∷_, _++_, map, reverse, append-nil, append-assoc}
+use mathlib.Core.List.{List, [], _∷_, _++_, map, reverse, reverse-reverse, append-nil, append-assoc}
 use mathlib.Core.Logic.{_↔_}
 use mathlib.Core.Path.{_≡_, refl, sym, ap, ap₂, _∙_, subst}
 use Prim.Native.Nat.{ℕ, zero, suc, _+_, _*_, _-_, _/_, _%_, _≤_, _<_}
@@ -29,6 +29,7 @@ use Rattle.theory_files.specs.Files.{inputLimit}
 use Rattle.theory_files.proofs.Files.{Fresh, ended, read-then, read-back}
 use Rattle.theory_files.proofs.Readings.{AllWithin, Answered, reading-answered}
 use Rattle.theory_files.proofs.Lengths.{accepted-length}
+use Rattle.theory_files.proofs.Decoding.{Octets, decoded}
 use Rattle.theory_archives.proofs.Ascending.{amountAt, amount-append, amount-reversed, from-lower, Same, told, fresh, Distinct, distinct-reversed}
 use Rattle.theory_archives.proofs.Cells.{Known, words-ascending, words-away, words-amount, rows-count, rows-columns, rows-cell, slice-length, slice-cell}
 
@@ -309,6 +310,18 @@ only-form z q t e =
     ap (λ (s : List ℕ). returned (reading s)) (q .bytes) ∙ ap returned (form-read n es (size .0) (size .1) (q .ascending))
     in
     q .bytes ∙ form-written n es (size .0) (size .1) (q .ascending) ∙ ap written (sym reads ∙ e)
+
+-- Theorem, for the reader: every accepted file whose cells come in ascending order, none of them 0, has the form
+pub ascending-form : (z : List ℕ) → Octets z → (n : ℕ) (es : List Entry) → reading z ≡ Reading.table n (reverse es) → Ascending n 0 es → InForm z
+ascending-form z small n es e a =
+    let answered : Answered inputLimit (Reading.table n (reverse es)) = subst (Answered inputLimit) e (reading-answered z) in
+    record {
+      sectors = n;
+      entries = es;
+      sized = rw (le-leb 1 n (answered .0)) (le-leb n sectorLimit (answered .1));
+      ascending = a;
+      bytes = decoded z small n (reverse es) e ∙ ap (fileOf n) (reverse-reverse es);
+    }
 
 -- Theorems, for the reader: "Two written files have equal bytes exactly when n and all cells are equal", of the files and of all bytes that are lent
 module _ (t u : Table) (f : Fit t) (g : Fit u) where
