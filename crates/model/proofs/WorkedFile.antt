@@ -6,7 +6,7 @@ use Prim.Native.Nat.{ℕ}
 use lib.Dec.{ltb}
 use lib.ListN.{length, take}
 use Rattle.model.specs.Table.{Table, tableOf}
-use Rattle.model.specs.Checks.{Report, accepts, refuses}
+use Rattle.model.specs.Checks.{accepts, refuses}
 use Rattle.model.specs.File.{Entry, columnKinds, encode, fileOf, wholeAt, insideAt, entryAt, Reading, walk, reading, flowsOf, columnOf, fileLimit}
 use Rattle.model.specs.Writer.{tableEntries, written, writerReport, returned}
 

@@ -1,20 +1,19 @@
 -- What is promised of a written file: reading it returns the table, it is the only file of its form for that table, and equal bytes are equal
 -- tables. Assumes nothing.
-use mathlib.Core.Bool.{Bool, true, false, cond, false≢true}
-use mathlib.Core.List.{List, [], _∷_, _++_, map, reverse, reverse-reverse, append-nil, append-assoc}
+use mathlib.Core.Bool.{Bool, true, false}
+use mathlib.Core.List.{List, [], _∷_, map, reverse, reverse-reverse, append-nil, append-assoc}
 use mathlib.Core.Logic.{_↔_}
 use mathlib.Core.Path.{_≡_, refl, sym, ap, ap₂, _∙_, subst}
 use Prim.Native.Nat.{ℕ, zero, suc, _+_, _*_, _-_, _/_, _%_, _≤_, _<_}
 use native.Mathlib.Omega.{arith}
-use native.Mathlib.Nat.{le-refl, zero-add, add-zero, mul-le-mul, not-suc-le-zero, le-of-suc-le-suc, lt-of-lt-of-le}
+use native.Mathlib.Nat.{zero-add, add-zero, mul-le-mul, not-suc-le-zero, le-of-suc-le-suc, lt-of-lt-of-le}
 use borrow.Author.Tests.{ltb-true, ltb-false, lt-ltb, eqb-true, eq-eqb, le-leb}
-use lib.Dec.{eqb, ltb, lit<}
+use lib.Dec.{eqb, ltb}
 use lib.ListN.{length, getD, take, replicate, length-append, length-replicate, List·getD-map}
 use lib.Seq.{length-take-le, getD-take, ext-getD, take-at}
-use Rattle.model.specs.Numbers.{Cells, tabulate, cell, at}
-use Rattle.model.specs.Table.{Table, tableOf, column, sectorLimit, sheetLimit, fewSectors}
-use Rattle.model.specs.Bytes.{Bytes, padded}
-use Rattle.model.specs.Checks.{Report, accepts, verdict, output, reportRead, bytesOf, tableAmounts}
+use Rattle.model.specs.Numbers.{tabulate, cell, at}
+use Rattle.model.specs.Table.{Table, tableOf, column, sectorLimit, sheetLimit}
+use Rattle.model.specs.Checks.{Report, accepts, output, reportRead, bytesOf, tableAmounts}
 use Rattle.model.specs.File.{Entry, Within, encodeAll, fileOf, fileLimit, columnKinds, columnWord, Reading, reading, flowsOf, columnOf, tableNamed, fits, called, answerOf}
 use Rattle.model.specs.Writer.{rows, wordsEntries, tableEntries, written, fileBytes, writerChecks, writerReport, order, Ascending, InForm, returned}
 use Rattle.model.specs.Contracts.{Slices, columnsOf, readingInto, Delivered, FileRead, tableFrom, Archived, FileWritten}

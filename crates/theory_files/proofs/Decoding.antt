@@ -1,12 +1,11 @@
 -- An accepted file holds nothing but n and its named cells: it is the file that is written of them, in its own order. Assumes nothing.
-use mathlib.Core.Bool.{Bool, true, false, _&&_, cond, false≢true}
+use mathlib.Core.Bool.{Bool, true, false, _&&_, cond}
 use mathlib.Core.List.{List, [], _∷_, _++_, reverse, reverseAux, reverse-reverse, append-assoc}
 use mathlib.Core.Path.{_≡_, refl, sym, ap, ap₂, _∙_, subst}
 use Prim.Native.Nat.{ℕ, zero, suc, _+_, _*_, _-_, _/_, _%_, _≤_, _<_}
 use native.Mathlib.Nat.{add-zero, add-assoc, sub-add-cancel, div-div-eq-div-mul}
 use native.Mathlib.Omega.{arith}
-use native.Mathlib.Numerals.{add-one}
-use borrow.Author.Tests.{eqb-true, leb-false, ltb-true, ltb-false, lt-ltb, le-ltb}
+use borrow.Author.Tests.{eqb-true}
 use lib.Arith.{digits-div, digits-mod}
 use lib.Dec.{eqb, leb, ltb}
 use lib.ListN.{length, drop, drop-of-length-le}
@@ -16,7 +15,7 @@ use Rattle.model.specs.Table.{sectorLimit, fewSectors}
 use Rattle.model.specs.File.{Entry, recordLengths, columnKinds, amountBytes, amountFrom, encode, encodeAll, fileOf, kindAt, isFlow, nextAt, wholeAt, insideAt, entryAt, namedBefore, Reading, walk, reading}
 use Rattle.theory.proofs.Lists.{tabulate-cong, and-true, from-one}
 use Rattle.theory_files.proofs.Readings.{unless, provided, either}
-use Rattle.theory_files.proofs.RecordKinds.{wordBytes, body, record-size, column-kind, taken, Taken}
+use Rattle.theory_files.proofs.RecordKinds.{body, record-size, column-kind, taken, Taken}
 
 -- every number of a list is a byte
 abbrev pub Octets : List ℕ → Type 0
