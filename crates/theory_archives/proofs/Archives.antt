@@ -369,6 +369,7 @@ archived n s f =
     let t = tableFrom n s in
     record {
       fits = written-fits t f;
+      accepted = written-read t f;
       returns = written-returns t f;
       form = written-form t f;
       only = λ z q. only-form z q t;
