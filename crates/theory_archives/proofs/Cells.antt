@@ -1,18 +1,17 @@
 -- The cells of a table and its named cells: what the writer takes of a table, and what the reader stores. Assumes nothing.
 use mathlib.Core.Bool.{Bool, true, false, cond, false≢true}
-use mathlib.Core.List.{List, [], _∷_, _++_, map, append-assoc}
+use mathlib.Core.List.{List, [], _∷_, _++_, append-assoc}
 use mathlib.Core.Path.{_≡_, refl, sym, ap, ap₂, _∙_, subst}
 use Prim.Native.Nat.{ℕ, zero, suc, _+_, _*_, _≤_, _<_, suc-le-suc}
 use native.Mathlib.Omega.{arith}
 use native.Mathlib.Nat.{le-refl, zero-add, add-zero, zero-mul, not-suc-le-zero, le-of-suc-le-suc, zero-lt-suc}
-use native.Mathlib.Numerals.{unary-clauses}
 use borrow.Author.Tests.{eq-eqb, ne-eqb, eqb-true, eqb-false}
-use lib.Dec.{eqb, ltb}
-use lib.ListN.{length, getD, set, take, drop, replicate, length-drop, length-set, length-replicate}
+use lib.Dec.{eqb}
+use lib.ListN.{length, getD, set, drop, replicate, length-drop, length-set, length-replicate}
 use lib.Seq.{length-take-le, getD-take, getD-drop, getD-set-same, getD-set-other}
 use Rattle.model.specs.Numbers.{cell}
 use Rattle.model.specs.Table.{sectorLimit}
-use Rattle.model.specs.File.{Entry, Within, wordLimit, namedBefore}
+use Rattle.model.specs.File.{Entry, Within, wordLimit}
 use Rattle.model.specs.Writer.{wordEntries, wordsEntries, rows, order, Ascending}
 use Rattle.theory.specs.Slices.{Columns}
 use Rattle.theory.proofs.Lists.{cell-zeros}
@@ -144,38 +143,38 @@ module _ (n : ℕ) (few : n ≤ sectorLimit) (slice : List Entry → List ℕ) (
     (inside : (e : Entry) → Within n e → belongs (e .word) ≡ true → index (e .word) (e .position) < size)
     (once : (e f : Entry) → Within n e → Within n f → belongs (e .word) ≡ true → belongs (f .word) ≡ true → index (e .word) (e .position) ≡ index (f .word) (f .position) → order e ≡ order f)
   where
-  pub slice-length : (es : List Entry) → length (slice es) ≡ size
-  slice-length [] = ap length none ∙ length-replicate size 0
-  slice-length (e ∷ es) = ap length (one-more e es) ∙ split (belongs (e .word)) (slice-length es)
-    where
-      split : (b : Bool) → length (slice es) ≡ size → length (cond b (set (slice es) (index (e .word) (e .position)) (e .amount)) (slice es)) ≡ size
-      split true h = length-set (slice es) (index (e .word) (e .position)) (e .amount) ∙ h
-      split false h = h
+    pub slice-length : (es : List Entry) → length (slice es) ≡ size
+    slice-length [] = ap length none ∙ length-replicate size 0
+    slice-length (e ∷ es) = ap length (one-more e es) ∙ split (belongs (e .word)) (slice-length es)
+      where
+        split : (b : Bool) → length (slice es) ≡ size → length (cond b (set (slice es) (index (e .word) (e .position)) (e .amount)) (slice es)) ≡ size
+        split true h = length-set (slice es) (index (e .word) (e .position)) (e .amount) ∙ h
+        split false h = h
 
-  pub slice-cell : (es : List Entry) → Distinct es → AllWithin n es → (e : Entry) → Within n e → belongs (e .word) ≡ true
-      → cell (slice es) (index (e .word) (e .position)) ≡ amountAt es (order e)
-  slice-cell [] d a e w h = ap (λ (l : List ℕ). cell l (index (e .word) (e .position))) none ∙ cell-zeros size (index (e .word) (e .position))
-  slice-cell (f ∷ es) d a e w h =
-      ap (λ (l : List ℕ). cell l here) (one-more f es) ∙ go (belongs (f .word)) (eqb (order f) (order e)) refl refl (slice-cell es (d .1) (a .1) e w h)
-    where
-      here : ℕ
-      here = index (e .word) (e .position)
+    pub slice-cell : (es : List Entry) → Distinct es → AllWithin n es → (e : Entry) → Within n e → belongs (e .word) ≡ true
+        → cell (slice es) (index (e .word) (e .position)) ≡ amountAt es (order e)
+    slice-cell [] d a e w h = ap (λ (l : List ℕ). cell l (index (e .word) (e .position))) none ∙ cell-zeros size (index (e .word) (e .position))
+    slice-cell (f ∷ es) d a e w h =
+        ap (λ (l : List ℕ). cell l here) (one-more f es) ∙ go (belongs (f .word)) (eqb (order f) (order e)) refl refl (slice-cell es (d .1) (a .1) e w h)
+      where
+        here : ℕ
+        here = index (e .word) (e .position)
 
-      same : order f ≡ order e → (f .word ≡ e .word) × (f .position ≡ e .position)
-      same q = let p = a .0 .place in let p2 = w .place in order-once f e (omega arith) (omega arith) q
+        same : order f ≡ order e → (f .word ≡ e .word) × (f .position ≡ e .position)
+        same q = let p = a .0 .place in let p2 = w .place in order-once f e (omega arith) (omega arith) q
 
-      go : (b t : Bool) → belongs (f .word) ≡ b → eqb (order f) (order e) ≡ t → cell (slice es) here ≡ amountAt es (order e)
-          → cell (cond b (set (slice es) (index (f .word) (f .position)) (f .amount)) (slice es)) here ≡ amountAt (f ∷ es) (order e)
-      go true true x y later =
-          let q = eqb-true (order f) (order e) y in
-          let s = same q in
-          let at-here : index (f .word) (f .position) ≡ here = ap₂ index (s .0) (s .1) in
-          ap (λ (i : ℕ). cell (set (slice es) i (f .amount)) here) at-here
-          ∙ getD-set-same (slice es) here (f .amount) 0 (subst (λ (m : ℕ). here < m) (sym (slice-length es)) (inside e w h))
-          ∙ sym (ap (amountAt (f ∷ es)) (sym q) ∙ amount-here f es (unnamed n few es f (a .1) (a .0) (d .0)))
-      go true false x y later =
-          getD-set-other (slice es) (index (f .word) (f .position)) here (f .amount) 0
-          (λ q. false≢true (sym y ∙ eq-eqb (order f) (order e) (once f e (a .0) w x h (sym q))))
-          ∙ later ∙ sym (amount-other f es (order e) y)
-      go false true x y later = absurd (false≢true (sym x ∙ ap belongs (same (eqb-true (order f) (order e) y) .0) ∙ h))
-      go false false x y later = later ∙ sym (amount-other f es (order e) y)
+        go : (b t : Bool) → belongs (f .word) ≡ b → eqb (order f) (order e) ≡ t → cell (slice es) here ≡ amountAt es (order e)
+            → cell (cond b (set (slice es) (index (f .word) (f .position)) (f .amount)) (slice es)) here ≡ amountAt (f ∷ es) (order e)
+        go true true x y later =
+            let q = eqb-true (order f) (order e) y in
+            let s = same q in
+            let at-here : index (f .word) (f .position) ≡ here = ap₂ index (s .0) (s .1) in
+            ap (λ (i : ℕ). cell (set (slice es) i (f .amount)) here) at-here
+            ∙ getD-set-same (slice es) here (f .amount) 0 (subst (λ (m : ℕ). here < m) (sym (slice-length es)) (inside e w h))
+            ∙ sym (ap (amountAt (f ∷ es)) (sym q) ∙ amount-here f es (unnamed n few es f (a .1) (a .0) (d .0)))
+        go true false x y later =
+            getD-set-other (slice es) (index (f .word) (f .position)) here (f .amount) 0
+            (λ q. false≢true (sym y ∙ eq-eqb (order f) (order e) (once f e (a .0) w x h (sym q))))
+            ∙ later ∙ sym (amount-other f es (order e) y)
+        go false true x y later = absurd (false≢true (sym x ∙ ap belongs (same (eqb-true (order f) (order e) y) .0) ∙ h))
+        go false false x y later = later ∙ sym (amount-other f es (order e) y)
