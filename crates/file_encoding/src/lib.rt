@@ -9,7 +9,7 @@ ghost use lib.Seq.{sets};
 ghost use Rattle.model.specs.Numbers.{cell};
 ghost use Rattle.model.specs.Table.{sectorLimit};
 ghost use Rattle.model.specs.Checks.{amountLimit};
-ghost use Rattle.model.specs.File.{Within, amountBytes, columnKinds, encode, encodeAll, wordLimit};
+ghost use Rattle.model.specs.File.{amountBytes, columnKinds, encode, encodeAll, wordLimit};
 ghost use Rattle.model.specs.Writer.{wordEntries};
 
 // An amount in four bytes, highest first.

@@ -1,11 +1,13 @@
 -- Document 01, "The table file": the worked table's file of 91 bytes, and files that are refused, computed by the checker. Assumes nothing.
+use mathlib.Core.Bool.{Bool, true, _&&_}
 use mathlib.Core.Path.{_≡_, refl}
 use mathlib.Core.List.{List, [], _∷_, map, reverse}
 use Prim.Native.Nat.{ℕ}
+use lib.Dec.{ltb}
 use lib.ListN.{length, take}
 use Rattle.model.specs.Table.{Table, tableOf}
-use Rattle.model.specs.Checks.{Report, accepts, refuses}
-use Rattle.model.specs.File.{Entry, encode, fileOf, wholeAt, insideAt, entryAt, Reading, walk, reading, flowsOf, columnOf, fileLimit}
+use Rattle.model.specs.Checks.{accepts, refuses}
+use Rattle.model.specs.File.{Entry, columnKinds, encode, fileOf, wholeAt, insideAt, entryAt, Reading, walk, reading, flowsOf, columnOf, fileLimit}
 use Rattle.model.specs.Writer.{tableEntries, written, writerReport, returned}
 
 abbrev pub naming : ℕ → ℕ → ℕ → Entry
@@ -54,6 +56,15 @@ pub small-written :
     × (writerReport (workedTable (0 ∷ [])) fileLimit ≡ refuses 1 2 0)
 unfolding encode fileOf tableEntries written writerReport
 small-written = (refl, refl, refl, refl)
+
+-- Theorem, for the reader: words are in the order of kinds, 2 for the rows of x and then those of the columns
+abbrev rising : List ℕ → Bool
+rising [] = true
+rising (k ∷ []) = true
+rising (k ∷ l ∷ ks) = ltb k l && rising (l ∷ ks)
+
+pub kinds-ascend : rising (2 ∷ columnKinds) ≡ true
+kinds-ascend = refl
 
 -- ---- files that are refused, and files of few bytes
 -- a file, and what the paper says of it

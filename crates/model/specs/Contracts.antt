@@ -4,7 +4,7 @@
 use mathlib.Core.Path.{_≡_}
 use mathlib.Core.Logic.{_↔_}
 use mathlib.Core.Bool.{true}
-use mathlib.Core.List.{List, [], _∷_, map}
+use mathlib.Core.List.{List, [], _∷_, map, reverse}
 use Prim.Native.Nat.{ℕ, _*_, _≤_}
 use lib.ListN.{length, getD, take, replicate}
 use Rattle.model.specs.Numbers.{Cells, cell, at, transposed}
@@ -15,7 +15,7 @@ use Rattle.model.specs.Checks.{Report, accepts, verdict, output, reportR
 use Rattle.model.specs.Calls.{coefficientsReport, inputCoefficients, valueAddedCoefficients, importCoefficients, domesticCoefficients, domesticDemands, productionReport, priceReport, impliedReport, inducedReport, inverseReport}
 use Rattle.model.specs.Promises.{Distinguishes, Accurate, AccuratePrices, Returns, NotAbove}
 use Rattle.model.specs.File.{Entry, Reading, reading, called, answerOf, flowsRead, columnRead, columnWord, fileLimit}
-use Rattle.model.specs.Writer.{written, fileBytes, writerReport, InForm, returned}
+use Rattle.model.specs.Writer.{tableEntries, written, fileBytes, writerReport, InForm, returned}
 use Rattle.model.specs.Page.{pageReport, pageBytes}
 
 -- Sheets from a table t: a, v, m, d and f
@@ -123,6 +123,8 @@ tableFrom n s = tableOf n (s .flows) (columnsOf s)
 -- What is promised of the file of the table t, which begins the 12,643 bytes that were lent: document 02, ticket 1
 pub record Archived (t : Table) (file lent : Bytes) : Type 0 where
   pub fits : length file ≤ fileLimit
+  -- it is itself accepted, its cells in the order in which it was written (a reading has the last one first)
+  pub accepted : reading file ≡ Reading.table (t .sectors) (reverse (tableEntries t))
   -- "Reading a written file returns the table"
   pub returns : returned (reading file) ≡ t
   -- it has the form, and is "the only file of this form for that table"

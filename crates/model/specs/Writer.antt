@@ -1,5 +1,5 @@
 -- Document 02, ticket 1: a table written as a file, the form of such a file, and what reading it returns.
-use mathlib.Core.Bool.{Bool, true, cond}
+use mathlib.Core.Bool.{true, cond}
 use mathlib.Core.List.{List, [], _∷_, _++_, map}
 use mathlib.Core.Path.{_≡_}
 use Prim.Native.Nat.{ℕ, zero, suc, _+_, _*_, _≤_, _<_}
@@ -9,7 +9,7 @@ use Rattle.model.specs.Numbers.{Cells}
 use Rattle.model.specs.Table.{Table, tableOf, sectorLimit, fewSectors}
 use Rattle.model.specs.Bytes.{Bytes, padded}
 use Rattle.model.specs.Checks.{Report, Check, verdict, single, size, lengths, tableAmounts}
-use Rattle.model.specs.File.{Entry, Within, fileOf, fileLimit, columnKinds, Reading, reading, tableNamed}
+use Rattle.model.specs.File.{Entry, Within, fileOf, fileLimit, columnKinds, Reading, tableNamed}
 
 -- ---- the file of a table
 -- The cells of a word from a position on, "zeros left out"

@@ -1,4 +1,5 @@
 // From the bytes of a table file to the printed page: read, work out, and only then print.
+use bytes::clear_bytes;
 use file_walk::read_flat;
 use model::CELLS;
 use model::Outcome;
@@ -12,7 +13,7 @@ use page_lines::put_refusal;
 use page_lines::put_sheet;
 ghost use mathlib.Core.Path.{_≡_};
 ghost use Prim.Native.Nat.{_≤_};
-ghost use lib.ListN.{length, replicate};
+ghost use lib.ListN.{length};
 ghost use lib.Seq.{sets};
 ghost use Rattle.model.specs.Table.{sectorLimit};
 ghost use Rattle.model.specs.Checks.{reportPage};
@@ -104,23 +105,12 @@ fn file_page(file: &[u8], out: &mut [u8]) -> usize
     put_print(print, &f, &y, &value, &imports, out)
 }
 
-// Sets every byte to 0.
-fn clear(out: &mut [u8])
-    ensures { λ _. ⌜ now (out .exit) ≡ replicate (length (now (out .entry))) 0 ⌝ }
-{
-    let mut i = 0;
-    while i < out.len() {
-        out[i] = 0;
-        i += 1;
-    }
-}
-
 // Reads a table file of any bytes and writes its page into a buffer of 2,851 bytes, which holds every page; the bytes after the page are 0. A
 // buffer of another length is refused with 2, and every byte of it is 0. What it promises is `PagePrinted`.
 pub fn write_page(file: &[u8], out: &mut [u8]) -> PageWritten
     ensures { λ r. ⌜ PagePrinted (now (file .entry)) (now (out .entry)) (reportPage r) (now (out .exit)) ⌝ }
 {
-    clear(out);
+    clear_bytes(out);
     if out.len() != PAGE {
         return PageWritten::Refused {
             number: 2,

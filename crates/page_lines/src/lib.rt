@@ -1,7 +1,7 @@
 // The lines of the printed sheet, into a lent buffer. Every function keeps every other byte, and answers the next free place.
+use bytes::put_bytes;
 use page_text::put_fields;
 use page_text::put_rest;
-use page_text::put_text;
 ghost use mathlib.Core.Path.{_≡_};
 ghost use mathlib.Core.List.{_∷_, [], map};
 ghost use Prim.Native.Nat.{_+_, _<_, _≤_};
@@ -16,7 +16,7 @@ fn put_labelled(word: &[u8], cells: &[u64], at: usize, out: &mut [u8]) -> usize
     ensures { λ r. ⌜ r ≡ at + length (line (now (word .entry) ∷ map decimal (now (cells .entry)))) ⌝ }
     ensures { λ _. ⌜ now (out .exit) ≡ sets (now (out .entry)) at (line (now (word .entry) ∷ map decimal (now (cells .entry)))) ⌝ }
 {
-    let next = put_text(word, at, out);
+    let next = put_bytes(word, at, out);
     put_rest(cells, next, out)
 }
 
@@ -36,7 +36,7 @@ fn put_headings(out: &mut [u8]) -> usize
     ensures { λ r. ⌜ r ≡ length (line headings) ⌝ }
     ensures { λ _. ⌜ now (out .exit) ≡ sets (now (out .entry)) 0 (line headings) ⌝ }
 {
-    put_text(b"sector demand production value imports\n", 0, out)
+    put_bytes(b"sector demand production value imports\n", 0, out)
 }
 
 // The line of sector i, which is numbered from 1.

@@ -1,32 +1,11 @@
 // Text into a lent buffer. Every function writes from `at` on, keeps every other byte, and answers the next free place.
+use bytes::put_byte;
 ghost use mathlib.Core.Path.{_≡_};
 ghost use mathlib.Core.List.{_++_, _∷_, [], map};
 ghost use Prim.Native.Nat.{_+_, _≤_};
 ghost use lib.ListN.{length};
 ghost use lib.Seq.{sets};
 ghost use Rattle.model.specs.Text.{decimal, rest, line};
-
-// One byte.
-pub fn put_byte(b: u8, at: usize, out: &mut [u8]) -> usize
-    requires { ⌜ at + 1 ≤ length (now out) ⌝ }
-    ensures { λ r. ⌜ r ≡ at + 1 ⌝ }
-    ensures { λ _. ⌜ now (out .exit) ≡ sets (now (out .entry)) at (b ∷ []) ⌝ }
-{
-    out[at] = b;
-    at + 1
-}
-
-// The bytes of a word.
-pub fn put_text(word: &[u8], at: usize, out: &mut [u8]) -> usize
-    requires { ⌜ at + length (now word) ≤ length (now out) ⌝ }
-    ensures { λ r. ⌜ r ≡ at + length (now (word .entry)) ⌝ }
-    ensures { λ _. ⌜ now (out .exit) ≡ sets (now (out .entry)) at (now (word .entry)) ⌝ }
-{
-    for i in 0..word.len() {
-        out[at + i] = word[i];
-    }
-    at + word.len()
-}
 
 // An amount in decimal: the digits of its tenth, then the digit that remains.
 pub fn put_decimal(amount: u64, at: usize, out: &mut [u8]) -> usize

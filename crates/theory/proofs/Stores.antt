@@ -2,12 +2,13 @@
 -- give what each call requires. Assumes nothing.
 use mathlib.Core.Path.{_≡_, refl, sym, ap, _∙_}
 use mathlib.Core.List.{List, [], _∷_, _++_}
-use Prim.Native.Nat.{ℕ, suc, _+_, _≤_, _<_}
-use native.Mathlib.Nat.{add-zero, add-suc, suc-add}
+use Prim.Native.Nat.{ℕ, zero, suc, _+_, _-_, _≤_, _<_}
+use native.Mathlib.Nat.{add-zero, add-suc, suc-add, not-suc-le-zero}
 use native.Mathlib.Numerals.{add-one}
 use native.Mathlib.Omega.{arith}
-use lib.ListN.{length, set, getD, drop, length-append}
-use lib.Seq.{sets, length-sets, drop-cons}
+use lib.ListN.{length, set, getD, drop, replicate, length-append, length-replicate}
+use lib.Seq.{sets, sets-eq, length-sets, drop-cons}
+use Rattle.model.specs.Bytes.{padded}
 
 sets-append : (a b l : List ℕ) (i : ℕ) → sets l i (a ++ b) ≡ sets (sets l i a) (i + length a) b
 sets-append [] b l i = ap (λ (k : ℕ). sets l k b) (sym (add-zero i))
@@ -46,6 +47,10 @@ leaves {j = j} b e p = go-on [] b e p (sym (add-zero j), refl)
 pub done : {text l m o left : List ℕ} {i j k : ℕ} → Begun text i l m j left → Wrote left j m o k → Wrote text i l o k
 done p w = (w .0 ∙ p .place, w .1 ∙ p .bytes)
 
+-- where nothing is left, the text is written
+pub ended : {text l m left : List ℕ} {i j : ℕ} → left ≡ [] → Begun text i l m j left → Wrote text i l m j
+ended {j = j} e p = done (leaves [] e p) (sym (add-zero j), refl)
+
 pub kept : {text l m left : List ℕ} {i j : ℕ} → Begun text i l m j left → length m ≡ length l
 kept {text} {l} {m} {left} {i} {j} p = sym (length-sets m j left) ∙ ap length (p .bytes) ∙ length-sets l i text
 
@@ -60,3 +65,18 @@ room-first a b e h p = omega (arith, ap length e, length-append a b, room h p)
 -- the first of what remains of a list from i on
 pub drop-first : (l : List ℕ) (i : ℕ) → i < length l → drop i l ≡ getD l i 0 ∷ drop (i + 1) l
 drop-first l i h = drop-cons l i 0 h ∙ ap (λ (n : ℕ). getD l i 0 ∷ drop n l) (sym (add-one i))
+
+-- ---- a text at the start of zeros
+drop-zeros : (k n : ℕ) → k ≤ n → drop {A = ℕ} k (replicate n 0) ≡ replicate (n - k) 0
+drop-zeros zero n h = let e : n - 0 ≡ n = omega arith in rw e refl
+drop-zeros (suc k) zero h = absurd (not-suc-le-zero h)
+drop-zeros (suc k) (suc n) h =
+    let e : suc n - suc k ≡ n - k = omega arith in
+    drop-zeros k n (omega arith) ∙ ap (λ (j : ℕ). replicate j 0) (sym e)
+
+pub over-zeros : (n : ℕ) (text : List ℕ) → length text ≤ n → sets (replicate n 0) 0 text ≡ padded n text
+over-zeros n text h =
+    let size = length-replicate {A = ℕ} n 0 in
+    let start : 0 + length text ≡ length text = omega arith in
+    sets-eq text (replicate n 0) 0 (omega arith)
+    ∙ ap (λ (k : ℕ). text ++ drop {A = ℕ} k (replicate n 0)) start ∙ ap (λ (l : List ℕ). text ++ l) (drop-zeros (length text) n h)

@@ -111,6 +111,11 @@ pass-on [] qs ks p = refl
 pass-on (q ∷ ps) qs ks p =
     passed q (ps ++ qs) ks (q .places) (le-refl (q .places)) (p .0) ∙ pass-on ps qs ks (p .1)
 
+-- and where all pass the call is accepted
+pub all-accepted : (qs : List Check) (ks : List ℕ) → AllPass qs → verdict qs ks ≡ accepts ks
+all-accepted [] ks p = refl
+all-accepted (q ∷ qs) ks p = passed q qs ks (q .places) (le-refl (q .places)) (p .0) ∙ all-accepted qs ks (p .1)
+
 pub accepted-counts : (qs : List Check) (ks : List ℕ) → verdict qs ks .accepted ≡ true → verdict qs ks .counts ≡ ks
 accepted-counts [] ks a = refl
 accepted-counts (q ∷ qs) ks a = split (ltb place (q .places)) a (accepted-counts qs ks)

@@ -1,1 +1,1 @@
-// Laws and theorems of printed pages: they stand in proofs/, and there is no code here.
+// Laws and theorems of written table files: they stand in proofs/, and there is no code here.

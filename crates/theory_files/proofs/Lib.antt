@@ -6,3 +6,4 @@ pub mod Lengths
 pub mod Prefixes
 pub mod Readings
 pub mod Beyond
+pub mod Decoding

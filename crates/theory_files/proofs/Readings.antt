@@ -27,20 +27,19 @@ abbrev pub Answered : ℕ → Reading → Type 0
 Answered most (Reading.refused number place) = (number ≤ 15) × (place ≤ most)
 Answered most (Reading.table n es) = (1 ≤ n) × (n ≤ sectorLimit) × AllWithin n es
 
--- with places in the file: a test that refuses where it passes, and one that refuses where it fails
-unless : (len : ℕ) (b : Bool) (x : Reading) (number place : ℕ) → (number ≤ 15) × (place ≤ len) → (b ≡ false → Answered len x)
-    → Answered len (cond b (Reading.refused number place) x)
-unless len true x number place r go = r
-unless len false x number place r go = go refl
+-- What holds of a refusal and of what follows holds of a question: of one that refuses where its test passes, and of one that refuses where it fails
+module _ (P : Reading → Type 0) where
+  pub unless : (b : Bool) (x : Reading) (number place : ℕ) → P (Reading.refused number place) → (b ≡ false → P x) → P (cond b (Reading.refused number place) x)
+  unless true x number place r go = r
+  unless false x number place r go = go refl
 
-provided : (len : ℕ) (b : Bool) (x : Reading) (number place : ℕ) → (number ≤ 15) × (place ≤ len) → (b ≡ true → Answered len x)
-    → Answered len (cond b x (Reading.refused number place))
-provided len true x number place r go = go refl
-provided len false x number place r go = r
+  pub provided : (b : Bool) (x : Reading) (number place : ℕ) → P (Reading.refused number place) → (b ≡ true → P x) → P (cond b x (Reading.refused number place))
+  provided true x number place r go = go refl
+  provided false x number place r go = r
 
-either : (len : ℕ) (b : Bool) (x y : Reading) → Answered len x → (b ≡ false → Answered len y) → Answered len (cond b x y)
-either len true x y p q = p
-either len false x y p q = q refl
+  pub either : (b : Bool) (x y : Reading) → (b ≡ true → P x) → (b ≡ false → P y) → P (cond b x y)
+  either true x y p q = p refl
+  either false x y p q = q refl
 
 walk-answered : (fuel : ℕ) (s : List ℕ) (n : ℕ) (es : List Entry) (at : ℕ) → 1 ≤ n → n ≤ sectorLimit → AllWithin n es
     → Answered (length s) (walk fuel s n es at)
@@ -48,15 +47,16 @@ unfolding walk
 walk-answered zero s n es at some few all = (le-refl 15, le-refl (length s))
 walk-answered (suc fuel) s n es at some few all =
     let len = length s in
-    unless len (leb len at) _ 15 len (le-refl 15, le-refl len) (λ on.
+    let P = Answered len in
+    unless P (leb len at) _ 15 len (le-refl 15, le-refl len) (λ on.
     let low = leb-false len at on in
-    provided len (wholeAt s at) _ 11 at (lit≤ tt, omega arith) (λ whole.
-    unless len (eqb (kindAt s at) 1) _ 12 at (lit≤ tt, omega arith) (λ later.
-    either len (eqb (kindAt s at) 8) _ _
-    (provided len (eqb (at + 1) len) (Reading.table n es) 15 (at + 1) (le-refl 15, omega arith) (λ last. (some, few, all)))
+    provided P (wholeAt s at) _ 11 at (lit≤ tt, omega arith) (λ whole.
+    unless P (eqb (kindAt s at) 1) _ 12 at (lit≤ tt, omega arith) (λ later.
+    either P (eqb (kindAt s at) 8) _ _
+    (λ ends. provided P (eqb (at + 1) len) (Reading.table n es) 15 (at + 1) (le-refl 15, omega arith) (λ last. (some, few, all)))
     (λ names.
-    provided len (insideAt s at n) _ 13 at (lit≤ tt, omega arith) (λ inside.
-    unless len (namedBefore es (entryAt s at)) _ 14 at (lit≤ tt, omega arith) (λ fresh.
+    provided P (insideAt s at n) _ 13 at (lit≤ tt, omega arith) (λ inside.
+    unless P (namedBefore es (entryAt s at)) _ 14 at (lit≤ tt, omega arith) (λ fresh.
     walk-answered fuel s n (entryAt s at ∷ es) (nextAt s at) some few (taken s at whole later names n few inside .within, all)))))))
 
 whole-answered : (s : List ℕ) → Answered (length s) (reading s)
@@ -64,9 +64,10 @@ unfolding reading
 whole-answered s =
     let len = length s in
     let n = cell s 1 in
-    unless len (eqb len 0) _ 15 0 (le-refl 15, omega arith) (λ some.
-    provided len (wholeAt s 0) _ 11 0 (lit≤ tt, omega arith) (λ whole.
-    provided len (eqb (kindAt s 0) 1 && fewSectors n) _ 12 0 (lit≤ tt, omega arith) (λ sized.
+    let P = Answered len in
+    unless P (eqb len 0) _ 15 0 (le-refl 15, omega arith) (λ some.
+    provided P (wholeAt s 0) _ 11 0 (lit≤ tt, omega arith) (λ whole.
+    provided P (eqb (kindAt s 0) 1 && fewSectors n) _ 12 0 (lit≤ tt, omega arith) (λ sized.
     let few = from-one n sectorLimit (and-true (eqb (kindAt s 0) 1) (fewSectors n) sized .1) in
     walk-answered len s n [] 2 (few .0) (few .1) tt)))
 

@@ -9,7 +9,7 @@ use lib.Dec.{eqb, leb, ltb}
 use lib.ListN.{length, List·getD-eq-default}
 use Rattle.model.specs.Numbers.{cell}
 use Rattle.model.specs.Table.{sectorLimit}
-use Rattle.model.specs.File.{Within, recordLengths, columnWords, kindAt, isFlow, nextAt, wholeAt, insideAt, entryAt, wordLimit}
+use Rattle.model.specs.File.{Within, recordLengths, columnKinds, columnWords, kindAt, isFlow, nextAt, wholeAt, insideAt, entryAt, wordLimit}
 use Rattle.theory.proofs.Lists.{first-before, and-true, from-one}
 
 -- past the last kind there is no body
@@ -21,10 +21,13 @@ record Column (k : ℕ) : Type 0 where
   size : cell recordLengths k ≡ 6
   low : sectorLimit ≤ cell columnWords k
   high : cell columnWords k < wordLimit
+  back : cell columnKinds (cell columnWords k - sectorLimit) ≡ k
 
 -- a kind with a body, other than 1, 2 and 8, is a column's: computed for each of the ten
 abbrev isColumn : ℕ → Bool
-isColumn k = eqb (cell recordLengths k) 6 && (leb sectorLimit (cell columnWords k) && ltb (cell columnWords k) wordLimit)
+isColumn k =
+    eqb (cell recordLengths k) 6
+    && (leb sectorLimit (cell columnWords k) && (ltb (cell columnWords k) wordLimit && eqb (cell columnKinds (cell columnWords k - sectorLimit)) k))
 
 abbrev isOther : ℕ → Bool
 isOther k = eqb (cell recordLengths k) 0 || (eqb k 1 || (eqb k 2 || eqb k 8))
@@ -39,7 +42,8 @@ column k some no-1 no-2 no-8 = go (ltb k 10) refl
     known e =
         let parts = and-true _ _ (sym (ap (λ (b : Bool). b || isColumn k) other) ∙ e) in
         let words = and-true _ _ (parts .1) in
-        record { size = eqb-true _ _ (parts .0); low = leb-true _ _ (words .0); high = ltb-true _ _ (words .1) }
+        let last = and-true _ _ (words .1) in
+        record { size = eqb-true _ _ (parts .0); low = leb-true _ _ (words .0); high = ltb-true _ _ (last .0); back = eqb-true _ _ (last .1) }
 
     go : (b : Bool) → ltb k 10 ≡ b → Column k
     go true e = known (first-before 10 (λ i. isOther i || isColumn i) k (ltb-true k 10 e))
@@ -73,6 +77,10 @@ module _ (s : List ℕ) (at : ℕ) (whole : wholeAt s at ≡ true) where
         go : (b : Bool) → isFlow s at ≡ b → cell recordLengths (kindAt s at) ≡ cond b 7 6
         go true e = ap (cell recordLengths) (eqb-true (kindAt s at) 2 e)
         go false e = column-of e .size
+
+    -- the word of a column has its kind
+    pub column-kind : isFlow s at ≡ false → cell columnKinds (cell columnWords (kindAt s at) - sectorLimit) ≡ kindAt s at
+    column-kind e = column-of e .back
 
     pub taken : (n : ℕ) → n ≤ sectorLimit → insideAt s at n ≡ true → Taken n s at
     unfolding insideAt entryAt

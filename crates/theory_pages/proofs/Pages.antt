@@ -2,13 +2,13 @@
 use mathlib.Core.Bool.{Bool, true, false, cond}
 use mathlib.Core.List.{List, [], _∷_, _++_, map, append-assoc}
 use mathlib.Core.Path.{_≡_, refl, sym, ap, _∙_}
-use Prim.Native.Nat.{ℕ, zero, suc, _+_, _*_, _-_, _^_, _≤_, _<_, suc-le-suc}
+use Prim.Native.Nat.{ℕ, zero, suc, _+_, _*_, _^_, _≤_, _<_, suc-le-suc}
 use native.Mathlib.Nat.{zero-lt-suc, not-suc-le-zero, le-step, lt-suc-self, lt-of-lt-of-le, mul-le-mul}
 use native.Mathlib.Omega.{arith}
 use borrow.Author.Tests.{ltb-true, ltb-false, leb-true, ne-eqb}
 use lib.Dec.{ltb, lit≤, lit<}
-use lib.ListN.{length, drop, replicate, length-append, length-replicate}
-use lib.Seq.{sets, sets-eq}
+use lib.ListN.{length, replicate, length-append}
+use lib.Seq.{sets}
 use Rattle.model.specs.Numbers.{first, cell, at}
 use Rattle.model.specs.Table.{Table, finalDemand, portion, sectorLimit}
 use Rattle.model.specs.Rounds.{settling, intermediate, inducedValueAdded, inducedImports}
@@ -29,6 +29,7 @@ use Rattle.theory_rounds.proofs.Answers.{InducedGiven, accepted-induced, accept
 use Rattle.theory_tables.proofs.Tables.{table-sizes}
 use Rattle.theory_tables.proofs.Prepared.{production-ready, induced-ready}
 use Rattle.theory.proofs.Decimals.{decimal-fits, line-fits}
+use Rattle.theory.proofs.Stores.{over-zeros}
 use Rattle.theory_files.proofs.Readings.{Answered, reading-answered}
 
 -- ---- a refusal: its number and its place have five digits at most
@@ -250,25 +251,10 @@ pub page-fits : (s : List ℕ) → length (page s) ≤ pageLimit
 unfolding page
 page-fits s = reading-fits (reading s) (reading-answered s)
 
--- ---- a text at the start of zeros
-drop-zeros : (k n : ℕ) → k ≤ n → drop {A = ℕ} k (replicate n 0) ≡ replicate (n - k) 0
-drop-zeros zero n h = let e : n - 0 ≡ n = omega arith in rw e refl
-drop-zeros (suc k) zero h = absurd (not-suc-le-zero h)
-drop-zeros (suc k) (suc n) h =
-    let e : suc n - suc k ≡ n - k = omega arith in
-    drop-zeros k n (omega arith) ∙ ap (λ (j : ℕ). replicate j 0) (sym e)
-
-over : (n : ℕ) (text : List ℕ) → length text ≤ n → sets (replicate n 0) 0 text ≡ text ++ replicate (n - length text) 0
-over n text h =
-    let size = length-replicate {A = ℕ} n 0 in
-    let start : 0 + length text ≡ length text = omega arith in
-    sets-eq text (replicate n 0) 0 (omega arith)
-    ∙ ap (λ (k : ℕ). text ++ drop {A = ℕ} k (replicate n 0)) start ∙ ap (λ (l : List ℕ). text ++ l) (drop-zeros (length text) n h)
-
 -- ---- the call: a buffer of the exact length, and one of another
 pub written : (s : List ℕ) → (pageReport pageLimit s ≡ accepts (length (page s) ∷ [])) × (pageBytes s ≡ sets (replicate pageLimit 0) 0 (page s))
 unfolding pageReport pageBytes
-written s = (refl, sym (over pageLimit (page s) (page-fits s)))
+written s = (refl, sym (over-zeros pageLimit (page s) (page-fits s)))
 
 pub unwritten : (len : ℕ) (s : List ℕ) → (len ≡ pageLimit → ⊥) → pageReport len s ≡ refuses 1 2 0
 unfolding pageReport

@@ -13,7 +13,7 @@ returns : tie.Need-returns
 returns c =
     let a = c .before .before .before .before .before .before .before .args in
     let q = c .before .before .before in
-    call-stop (a .file .now) (a .out .now) (λ e. c .if1 .taken (q .clear .kept .0 ∙ e)) (q .clear .ensures)
+    call-stop (a .file .now) (a .out .now) (λ e. c .if1 .taken (q .clear-bytes .kept .0 ∙ e)) (q .clear-bytes .ensures)
 
 file-page-requires : tie.Need-file-page-requires
 file-page-requires c κs = omega (arith, page-fits (c .before .before .before .before .before .before .before .before .args .file .now), c .before .if1 .left)
@@ -22,8 +22,8 @@ returns-2 : tie.Need-returns-2
 returns-2 c =
     let a = c .before .before .before .before .before .before .before .before .before .before .before .args in
     let q = c .before .before .before .before .before .before .before in
-    let long : length (a .out .now) ≡ pageLimit = sym (q .clear .kept .0) ∙ c .before .before .before .before .if1 .left in
-    call-on (a .file .now) (a .out .now) long (q .clear .ensures) (c .before .before .file-page .ensures)
+    let long : length (a .out .now) ≡ pageLimit = sym (q .clear-bytes .kept .0) ∙ c .before .before .before .before .if1 .left in
+    call-on (a .file .now) (a .out .now) long (q .clear-bytes .ensures) (c .before .before .file-page .ensures)
 
 pub write-page-spec : {M : Type 1} → statement M
 write-page-spec =

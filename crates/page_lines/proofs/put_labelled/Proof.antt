@@ -17,17 +17,17 @@ fields s = rest (map decimal (s .args .cells .now))
 start : (s : tie.Start) → Begun (word s ++ fields s) (s .args .at) (s .args .out .now) (s .args .out .now) (s .args .at) (word s ++ fields s)
 start s = begin (word s ++ fields s) (s .args .at) (s .args .out .now)
 
-abbrev entry : tie.After-put-text → tie.Start
+abbrev entry : tie.After-put-bytes → tie.Start
 entry p = p .before .before .before .before .before
 
 named :
-    (p : tie.After-put-text) →
+    (p : tie.After-put-bytes) →
     let s = entry p in
-    Begun (word s ++ fields s) (s .args .at) (s .args .out .now) (p .put-text .last .1 .1 .0) (p .put-text .result) (fields s)
-named p = let s = entry p in go-on (word s) (fields s) refl (start s) (p .put-text .ensures)
+    Begun (word s ++ fields s) (s .args .at) (s .args .out .now) (p .put-bytes .last .1 .1 .0) (p .put-bytes .result) (fields s)
+named p = let s = entry p in go-on (word s) (fields s) refl (start s) (p .put-bytes .ensures)
 
-put-text-requires : tie.Need-put-text-requires
-put-text-requires c κs =
+put-bytes-requires : tie.Need-put-bytes-requires
+put-bytes-requires c κs =
     let s = c .before .before .before .before in
     room-first (word s) (fields s) refl (s .pre) (start s)
 
@@ -40,4 +40,4 @@ returns : tie.Need-returns
 returns c = done (named (c .before .before .before .before .before .before)) (c .before .before .put-rest .ensures)
 
 pub put-labelled-spec : {M : Type 1} → statement M
-put-labelled-spec = tie.close (tie.spec put-text-requires put-rest-requires (λ c. search needs) returns)
+put-labelled-spec = tie.close (tie.spec put-bytes-requires put-rest-requires (λ c. search needs) returns)

@@ -1,12 +1,12 @@
--- `page::clear` meets its contract: the bytes below i are 0. Assumes nothing.
+-- `bytes::clear_bytes` meets its contract: the bytes below i are 0. Assumes nothing.
 use mathlib.Core.Path.{_≡_, refl}
 use Prim.Native.Nat.{_≤_, _-_}
 use native.Mathlib.Omega.{arith}
 use borrow.Author.Needs.{needs}
 use lib.ListN.{length, length-set}
 use Rattle.theory.proofs.Lists.{Agree, agree-none, agree-set, zeroed}
-use Rattle.page.proofs.clear.Statement.{statement}
-use Rattle.page.proofs.clear.Tie as tie
+use Rattle.bytes.proofs.clear_bytes.Statement.{statement}
+use Rattle.bytes.proofs.clear_bytes.Tie as tie
 
 abbrev Inv-loop : tie.InvT-loop
 Inv-loop s₀ i₀ s i = (i ≤ length s) × (length s ≡ length s₀) × Agree s i (λ _. 0)
@@ -22,7 +22,7 @@ loop-again c =
 returns : tie.Need-returns Inv-loop μ-loop
 returns c = zeroed _ _ (c .before .loop .out) (c .before .loop .inv .1) (omega arith) (c .before .loop .inv .2)
 
-pub clear-spec : {M : Type 1} → statement M
-clear-spec =
+pub clear-bytes-spec : {M : Type 1} → statement M
+clear-bytes-spec =
     tie.close
     (tie.spec Inv-loop μ-loop (λ c. (omega arith, refl, agree-none (c .args .out .now) _)) (λ c. omega arith) (λ c. search needs) (λ c. simp length-set (omega arith)) loop-again (λ c. omega arith) returns)
