@@ -13,16 +13,15 @@ use model::TableWritten;
 use table_checks::check_amounts;
 ghost use mathlib.Core.List.{[], _∷_};
 ghost use mathlib.Core.Path.{_≡_};
-ghost use Prim.Native.Nat.{ℕ, _+_, _*_, _≤_};
+ghost use Prim.Native.Nat.{ℕ, _+_, _*_, _<_, _≤_};
 ghost use lib.ListN.{getD, length};
 ghost use lib.Seq.{sets};
 ghost use Rattle.model.specs.Numbers.{cell};
 ghost use Rattle.model.specs.Table.{sectorLimit, tableOf};
 ghost use Rattle.model.specs.Checks.{amountLimit, report, reportWritten, verdict};
-ghost use Rattle.model.specs.File.{encodeAll};
+ghost use Rattle.model.specs.File.{columnKinds, encodeAll};
 ghost use Rattle.model.specs.Writer.{rows, wordsEntries, written, writerChecks};
 ghost use Rattle.model.specs.Contracts.{FileWritten, slicesOf};
-ghost use Rattle.theory.specs.Slices.{Columns};
 ghost use Rattle.theory_tables.specs.Tables.{TableAmounts, TableSizes};
 
 // The rows of x.
@@ -35,7 +34,9 @@ fn put_rows(n: usize, x: &[u64], at: usize, file: &mut [u8]) -> usize
 {
     let mut next = at;
     for i in 0..n {
-        next = put_word(i, &x[i * n..i * n + n], next, file);
+        let start = i * n;
+        let end = start + n;
+        next = put_word(i, &x[start..end], next, file);
     }
     next
 }
@@ -51,7 +52,7 @@ fn put_columns(
     at: usize,
     file: &mut [u8],
 ) -> usize
-    requires { ⌜ (length (now «final_demand») ≤ sectorLimit) × Columns (length (now «final_demand»)) (now «final_demand» ∷ now exports ∷ now imports ∷ now «value_added» ∷ now production ∷ now rises ∷ []) ⌝ }
+    requires { ⌜ ((c : ℕ) → c < length columnKinds → length (getD (now «final_demand» ∷ now exports ∷ now imports ∷ now «value_added» ∷ now production ∷ now rises ∷ []) c []) ≤ sectorLimit) ⌝ }
     requires { ⌜ ((c k : ℕ) → cell (getD (now «final_demand» ∷ now exports ∷ now imports ∷ now «value_added» ∷ now production ∷ now rises ∷ []) c []) k ≤ amountLimit) ⌝ }
     requires { ⌜ at + length (encodeAll (wordsEntries sectorLimit (now «final_demand» ∷ now exports ∷ now imports ∷ now «value_added» ∷ now production ∷ now rises ∷ []))) ≤ length (now file) ⌝ }
     ensures { λ r. ⌜ r ≡ at + length (encodeAll (wordsEntries sectorLimit (now («final_demand» .entry) ∷ now (exports .entry) ∷ now (imports .entry) ∷ now («value_added» .entry) ∷ now (production .entry) ∷ now (rises .entry) ∷ []))) ⌝ }

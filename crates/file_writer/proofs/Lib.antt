@@ -1,0 +1,2 @@
+-- The file of a table, part by part.
+pub mod TableLaws
