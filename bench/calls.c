@@ -4,7 +4,7 @@
 #include <stdbool.h>
 #include <string.h>
 
-enum { ONE = 1000000, COLUMN = 950000, SECTORS = 40, MARKS = 46 };
+enum { ONE = 1000000, COLUMN = 950000, AMOUNT = 1000000000, SECTORS = 40, MARKS = 46 };
 
 // One round along the rows. Did it change no sector?
 static bool turn_rows(
@@ -275,4 +275,68 @@ void c_read_table(
     if (*number != 0)
         clear(x, columns);
     memset(marks, 0, MARKS * sizeof *marks);
+}
+
+// Questions 1 and 3 of a table: the number of the first answered no, or 0.
+static uint8_t ask_table(size_t n, const uint64_t *x, const uint64_t *const columns[6], size_t *place)
+{
+    *place = 0;
+    if (n < 1 || SECTORS < n)
+        return 1;
+    size_t cell = cell_over(n * n, x, AMOUNT), before = n * n;
+    for (int k = 0; k < 6 && cell == before; k++) {
+        cell += cell_over(n, columns[k], AMOUNT);
+        before += n;
+    }
+    if (cell == before)
+        return 0;
+    *place = cell;
+    return 3;
+}
+
+static uint8_t *put_amount(uint8_t *p, uint64_t amount)
+{
+    p[0] = (uint8_t)(amount >> 24), p[1] = (uint8_t)(amount >> 16), p[2] = (uint8_t)(amount >> 8), p[3] = (uint8_t)amount;
+    return p + 4;
+}
+
+// The cells that are not 0, kind by kind. The end of what was written.
+static uint8_t *put_cells(size_t n, const uint64_t *x, const uint64_t *const columns[6], uint8_t *p)
+{
+    static const uint8_t kinds[6] = {3, 4, 5, 6, 7, 9};
+    for (size_t i = 0; i < n; i++)
+        for (size_t j = 0; j < n; j++)
+            if (x[i * n + j] != 0) {
+                *p++ = 2, *p++ = (uint8_t)(i + 1), *p++ = (uint8_t)(j + 1);
+                p = put_amount(p, x[i * n + j]);
+            }
+    for (int k = 0; k < 6; k++)
+        for (size_t i = 0; i < n; i++)
+            if (columns[k][i] != 0) {
+                *p++ = kinds[k], *p++ = (uint8_t)(i + 1);
+                p = put_amount(p, columns[k][i]);
+            }
+    return p;
+}
+
+void c_write_table(
+    size_t n, const uint64_t *x, size_t x_length,
+    const uint64_t *final_demand, size_t final_demand_length, const uint64_t *exports, size_t exports_length,
+    const uint64_t *imports, size_t imports_length, const uint64_t *value_added, size_t value_added_length,
+    const uint64_t *production, size_t production_length, const uint64_t *rises, size_t rises_length,
+    uint8_t *file, size_t file_length,
+    uint8_t *number, size_t *place, size_t *length)
+{
+    const uint64_t *const columns[6] = {final_demand, exports, imports, value_added, production, rises};
+    (void)x_length, (void)final_demand_length, (void)exports_length, (void)imports_length, (void)value_added_length;
+    (void)production_length, (void)rises_length;
+    uint8_t *p = file;
+    *number = ask_table(n, x, columns, place);
+    if (*number == 0) {
+        *p++ = 1, *p++ = (uint8_t)n;
+        p = put_cells(n, x, columns, p);
+        *p++ = 8;
+    }
+    *length = (size_t)(p - file);
+    memset(p, 0, file_length - *length);
 }

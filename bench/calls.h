@@ -24,8 +24,17 @@ typedef void reading(
     uint64_t *marks, size_t marks_length,
     uint8_t *number, size_t *place, size_t *sectors, size_t *named);
 
+typedef void writing(
+    size_t n, const uint64_t *x, size_t x_length,
+    const uint64_t *final_demand, size_t final_demand_length, const uint64_t *exports, size_t exports_length,
+    const uint64_t *imports, size_t imports_length, const uint64_t *value_added, size_t value_added_length,
+    const uint64_t *production, size_t production_length, const uint64_t *rises, size_t rises_length,
+    uint8_t *file, size_t file_length,
+    uint8_t *number, size_t *place, size_t *length);
+
 settling c_production, c_price, rust_production, rust_price;
 inverting c_inverse, rust_inverse;
 reading c_read_table, rust_read_table;
+writing c_write_table, rust_write_table;
 
 #endif

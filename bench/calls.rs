@@ -4,6 +4,7 @@ use std::slice::{from_raw_parts, from_raw_parts_mut};
 
 const ONE: u64 = 1_000_000;
 const COLUMN: u64 = 950_000;
+const AMOUNT: u64 = 1_000_000_000;
 const SECTORS: usize = 40;
 
 /// The number of the first question answered no, and its place.
@@ -217,6 +218,51 @@ fn read(
     answer
 }
 
+/// Kinds of the columns.
+const KINDS: [u8; 6] = [3, 4, 5, 6, 7, 9];
+
+fn check_table(n: usize, x: &[u64], columns: &[&[u64]; 6]) -> Result<(), Refusal> {
+    if !(1..=SECTORS).contains(&n) {
+        return Err((1, 0));
+    }
+    let mut cells = x.iter().chain(columns.iter().copied().flatten());
+    match cells.position(|&cell| AMOUNT < cell) {
+        Some(place) => Err((3, place)),
+        None => Ok(()),
+    }
+}
+
+/// Some bytes at a place of the file: the place after them.
+fn put<const N: usize>(file: &mut [u8], at: usize, bytes: [u8; N]) -> usize {
+    file[at..at + N].copy_from_slice(&bytes);
+    at + N
+}
+
+/// The table as a file, and zeros after it: the file's length.
+fn write(n: usize, x: &[u64], columns: &[&[u64]; 6], file: &mut [u8]) -> Result<usize, Refusal> {
+    check_table(n, x, columns)?;
+    let mut at = put(file, 0, [1, n as u8]);
+    for (i, row) in (1..).zip(x.chunks_exact(n)) {
+        for (j, &cell) in (1..).zip(row) {
+            if cell != 0 {
+                at = put(file, at, [2, i, j]);
+                at = put(file, at, (cell as u32).to_be_bytes());
+            }
+        }
+    }
+    for (kind, column) in KINDS.into_iter().zip(columns) {
+        for (i, &cell) in (1..).zip(*column) {
+            if cell != 0 {
+                at = put(file, at, [kind, i]);
+                at = put(file, at, (cell as u32).to_be_bytes());
+            }
+        }
+    }
+    at = put(file, at, [8]);
+    file[at..].fill(0);
+    Ok(at)
+}
+
 // The same for C. Pointers are those of arrays with the lengths that follow them.
 
 unsafe fn tell(
@@ -339,4 +385,45 @@ pub unsafe extern "C" fn rust_read_table(
     let answer = read(file, x, &mut columns, marks);
     (*number, *place) = answer.err().unwrap_or((0, 0));
     (*sectors, *named) = answer.unwrap_or((0, 0));
+}
+
+#[no_mangle]
+pub unsafe extern "C" fn rust_write_table(
+    n: usize,
+    x: *const u64,
+    x_length: usize,
+    final_demand: *const u64,
+    final_demand_length: usize,
+    exports: *const u64,
+    exports_length: usize,
+    imports: *const u64,
+    imports_length: usize,
+    value_added: *const u64,
+    value_added_length: usize,
+    production: *const u64,
+    production_length: usize,
+    rises: *const u64,
+    rises_length: usize,
+    file: *mut u8,
+    file_length: usize,
+    number: *mut u8,
+    place: *mut usize,
+    length: *mut usize,
+) {
+    let x = from_raw_parts(x, x_length);
+    let columns = [
+        from_raw_parts(final_demand, final_demand_length),
+        from_raw_parts(exports, exports_length),
+        from_raw_parts(imports, imports_length),
+        from_raw_parts(value_added, value_added_length),
+        from_raw_parts(production, production_length),
+        from_raw_parts(rises, rises_length),
+    ];
+    let file = from_raw_parts_mut(file, file_length);
+    let answer = write(n, x, &columns, file);
+    if answer.is_err() {
+        file.fill(0);
+    }
+    (*number, *place) = answer.err().unwrap_or((0, 0));
+    *length = answer.unwrap_or(0);
 }

@@ -17,14 +17,16 @@ static const struct {
     settling *production, *price;
     inverting *inverse;
     reading *read_table;
+    writing *write_table;
 } ways[WAYS] = {
-    {"ours", tawqeshim_production, tawqeshim_price, tawqeshim_inverse, tawqeshim_read_table},
-    {"C", c_production, c_price, c_inverse, c_read_table},
-    {"Rust", rust_production, rust_price, rust_inverse, rust_read_table},
+    {"ours", tawqeshim_production, tawqeshim_price, tawqeshim_inverse, tawqeshim_read_table, tawqeshim_write_table},
+    {"C", c_production, c_price, c_inverse, c_read_table, c_write_table},
+    {"Rust", rust_production, rust_price, rust_inverse, rust_read_table, rust_write_table},
 };
 
-enum call { PRODUCTION, PRICE, INVERSE, READ, CALLS };
-static const char *const call_names[CALLS] = {"production", "price", "inverse", "read_table"};
+// Those up to INVERSE settle, the others are about files.
+enum call { PRODUCTION, PRICE, INVERSE, READ, WRITE, CALLS };
+static const char *const call_names[CALLS] = {"production", "price", "inverse", "read_table", "write_table"};
 
 // What a call is handed.
 struct input {
@@ -34,14 +36,16 @@ struct input {
     uint64_t d[CELLS], start[2][SECTORS]; // a demand, and direct rises
     uint8_t file[FILE_BYTES];
     size_t length;
+    uint64_t x[CELLS], columns[6][SECTORS]; // the table of the file
 };
 
 // What it gives. Unused cells stay 0.
 struct output {
     uint8_t number;
-    size_t place, sectors, named;
+    size_t place, sectors, named, length;
     uint32_t rounds;
     uint64_t sheet[CELLS], columns[6][SECTORS], work[MARKS];
+    uint8_t file[FILE_BYTES];
 };
 
 static void run(enum call call, int way, const struct input *in, struct output *out)
@@ -52,6 +56,10 @@ static void run(enum call call, int way, const struct input *in, struct output *
         ways[way].read_table(
             in->file, in->length, out->sheet, CELLS, c[0], SECTORS, c[1], SECTORS, c[2], SECTORS, c[3], SECTORS, c[4],
             SECTORS, c[5], SECTORS, out->work, MARKS, &out->number, &out->place, &out->sectors, &out->named);
+    else if (call == WRITE)
+        ways[way].write_table(
+            n, in->x, n * n, in->columns[0], n, in->columns[1], n, in->columns[2], n, in->columns[3], n, in->columns[4], n,
+            in->columns[5], n, out->file, FILE_BYTES, &out->number, &out->place, &out->length);
     else if (call == INVERSE)
         ways[way].inverse(
             n, in->d, n * n, in->budget, out->sheet, n * n, c[0], n, c[1], n, &out->number, &out->place, &out->rounds);
@@ -125,7 +133,7 @@ static void ring(struct input *in, const char *name, uint64_t demand, uint64_t r
     in->start[1][0]++;
 }
 
-// Every cell named, by rows and then by columns: the longest file that is accepted.
+// Every cell named, by rows and then by columns, none of them 0: the longest file that is accepted, as it is written.
 static void full_file(struct input *in)
 {
     uint8_t *p = in->file;
@@ -133,7 +141,8 @@ static void full_file(struct input *in)
     *p++ = 1, *p++ = SECTORS;
     for (int kind = 2; kind <= 9; kind++)
         for (int i = 0; kind != 8 && i < (kind == 2 ? CELLS : SECTORS); i++) {
-            uint32_t amount = (uint32_t)random_below(1000000001);
+            uint32_t amount = (uint32_t)random_below(1000000000) + 1;
+            *(kind == 2 ? &in->x[i] : &in->columns[kind == 9 ? 5 : kind - 3][i]) = amount;
             *p++ = (uint8_t)kind;
             if (kind == 2)
                 *p++ = (uint8_t)(i / SECTORS + 1);
@@ -191,6 +200,25 @@ static int compare_damaged(const struct input *in)
         if (k % 5 == 0)
             bad.length = random_below(in->length);
         seen += compare(READ, &bad).number != 0;
+    }
+    return seen;
+}
+
+// Tables with other cells: zeros, which are left out, and amounts over the limit.
+static int compare_written(const struct input *in)
+{
+    static struct input other;
+    int seen = 0;
+    for (int k = 0; k < 2000; k++) {
+        other = *in;
+        for (int cells = 0; cells < k % 500; cells++)
+            other.x[random_below(CELLS)] = 0;
+        if (k % 4 == 0)
+            other.n = 1 + random_below(SECTORS);
+        if (k % 2)
+            *(k % 3 ? &other.x[random_below(CELLS)] : &other.columns[random_below(6)][random_below(SECTORS)]) =
+                1000000001 + random_below(k % 7 ? 2 : UINT64_MAX / 2);
+        seen += compare(WRITE, &other).number != 0;
     }
     return seen;
 }
@@ -315,15 +343,15 @@ static void row(enum call call, const struct input *in)
     double each[WAYS + 1], spread;
     uint32_t told;
     uint64_t rounds = rounds_of(call, in, &told);
-    int used = call == READ || !LAPACK ? WAYS : WAYS + 1;
+    int used = call > INVERSE || !LAPACK ? WAYS : WAYS + 1;
     int times = 1 + (int)(1e6 / timed(call, 0, in, 3));
     for (int k = 0; k < REPETITIONS; k++)
         for (int way = 0; way < used; way++)
             took[way][k] = timed(call, way, in, times);
     for (int way = 0; way < used; way++)
         each[way] = median(took[way], &spread);
-    printf("%-10s %-14s %2zu ", call_names[call], in->name, in->n);
-    if (call == READ)
+    printf("%-11s %-14s %2zu ", call_names[call], in->name, in->n);
+    if (call > INVERSE)
         printf("%6s", "-");
     else
         printf("%6u", told);
@@ -333,7 +361,7 @@ static void row(enum call call, const struct input *in)
         else
             printf(" %9s", "-");
     for (int way = 0; way < WAYS; way++)
-        if (call == READ)
+        if (call > INVERSE)
             printf(" %5s", "-");
         else
             printf(" %5.0f", each[way] / (double)rounds);
@@ -364,16 +392,17 @@ int main(void)
         for (enum call call = PRODUCTION; LAPACK && call <= INVERSE; call++)
             compare_lapack(call, &sheets[k]);
     }
-    refused += compare_damaged(&file);
-    printf("Ours, C and Rust give the same cells, numbers, places and counts, on the timed inputs and on %d refused ones.\n", refused);
+    refused += compare_damaged(&file) + compare_written(&file);
+    printf("Ours, C and Rust give the same cells, bytes, numbers, places and counts, on the timed inputs and on %d refused ones.\n", refused);
     printf("Nanoseconds of processor time, median of %d. ± is half the distance between the quartiles.\n\n", REPETITIONS);
-    printf("%-34s %39s %17s %14s %14s\n", "", "a call", "a round", "ratio", "ratio");
-    printf("%-10s %-14s %2s %6s %9s %9s %9s %9s %5s %5s %5s %14s %14s\n", "call", "sheet", "n", "rounds", "ours", "C", "Rust", "LAPACK",
+    printf("%-35s %39s %17s %14s %14s\n", "", "a call", "a round", "ratio", "ratio");
+    printf("%-11s %-14s %2s %6s %9s %9s %9s %9s %5s %5s %5s %14s %14s\n", "call", "sheet", "n", "rounds", "ours", "C", "Rust", "LAPACK",
         "ours", "C", "Rust", "ours/C", "ours/Rust");
     // the inverse takes no demand
     for (enum call call = PRODUCTION; call <= INVERSE; call++)
         for (int k = 0; k < (call == INVERSE ? PLAIN : SHEETS); k++)
             row(call, &sheets[k]);
-    row(READ, &file);
+    for (enum call call = READ; call < CALLS; call++)
+        row(call, &file);
     return 0;
 }

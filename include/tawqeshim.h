@@ -39,17 +39,17 @@ extern "C" {
 #endif
 
 /* The version of this header; scripts/version prints and sets it. A change of the first number changes what callers see. */
-#define TAWQESHIM_VERSION "1.0.0"
+#define TAWQESHIM_VERSION "1.1.0"
 
 /* The version of the library that a program runs with. */
 extern const char tawqeshim_version[];
 
-/* Sizes of arrays. Those of read_table and of a page do not depend on n. */
+/* Sizes of arrays. Those of read_table, of a file and of a page do not depend on n. */
 #define TAWQESHIM_SECTORS 40      /* the most sectors; the cells of each column that read_table fills */
 #define TAWQESHIM_CELLS 1600      /* the cells of x that read_table fills; every matrix fits */
 #define TAWQESHIM_MARKS 46        /* the work words of read_table */
 #define TAWQESHIM_PAGE 2851       /* the bytes of a page's buffer */
-#define TAWQESHIM_FILE 12643      /* the bytes of the longest accepted table file */
+#define TAWQESHIM_FILE 12643      /* the bytes of the longest accepted table file, which write_table is lent */
 #define TAWQESHIM_FILE_READ 12649 /* a longer input is answered as its first 12,649 bytes are: a buffer of these is enough */
 
 /* One, in millionths, and the limits of the questions. */
@@ -259,7 +259,8 @@ void tawqeshim_row(
  * Takes the bytes of the file. The lengths that 2 asks for are fixed: TAWQESHIM_CELLS (1,600) for x, TAWQESHIM_SECTORS (40) for each of the
  * six columns, TAWQESHIM_MARKS (46) for marks.
  * Gives x, whose row i starts at cell i * n; final_demand, exports, imports, value_added, production and rises; n in *sectors, and in
- * *named how many cells the file names. Cells that are not named are 0. Amounts are not checked here: tawqeshim_coefficients asks 3.
+ * *named how many cells the file names. Cells that are not named are 0. Amounts are not checked here: tawqeshim_coefficients and
+ * tawqeshim_write_table ask 3.
  * A refusal sets every cell of x and of the six columns to 0. Every cell of marks, which are work, is 0 after every call.
  */
 void tawqeshim_read_table(
@@ -273,6 +274,31 @@ void tawqeshim_read_table(
     uint64_t *rises, size_t rises_length,
     uint64_t *marks, size_t marks_length,
     uint8_t *number, size_t *place, size_t *sectors, size_t *named);
+
+/*
+ * Writes a table as a table file: n, then the cells that are not 0 in ascending kind, row and column, then the end. Asks 1, 2, 3.
+ *
+ * Takes x, n * n cells; and final_demand, exports, imports, value_added, production and rises, n cells each. Places of 3 run on through
+ * these seven in this order, so rises[0] is place n * n + 5 * n. Whether the table balances is not asked here: tawqeshim_coefficients does.
+ * Question 2 asks for TAWQESHIM_FILE (12,643) bytes of file, which hold every table file.
+ * Gives in *length how many bytes the file has, and in file the file from the start; every byte after it is 0. The table file is the first
+ * *length bytes alone: keep and hand on these, since a reader refuses a byte after the end.
+ * Reading the file gives n and the cells back. Two written files have the same bytes exactly if n and all cells are the same; that holds of
+ * the whole 12,643 bytes too. So a file in another order, or one that names zeros, takes the one written form of its table when it is read
+ * and written again.
+ * A refusal sets every byte of file to 0, also if it has another length.
+ */
+void tawqeshim_write_table(
+    size_t n,
+    const uint64_t *x, size_t x_length,
+    const uint64_t *final_demand, size_t final_demand_length,
+    const uint64_t *exports, size_t exports_length,
+    const uint64_t *imports, size_t imports_length,
+    const uint64_t *value_added, size_t value_added_length,
+    const uint64_t *production, size_t production_length,
+    const uint64_t *rises, size_t rises_length,
+    uint8_t *file, size_t file_length,
+    uint8_t *number, size_t *place, size_t *length);
 
 /*
  * Reads a table file of any bytes and writes the sheet that is printed of it, as the program roadsheet does: demand, production with 1,400
@@ -289,8 +315,8 @@ void tawqeshim_page(
     uint8_t *number, size_t *place, size_t *length);
 
 /*
- * A table and its sheets by names, for tawqeshim_coefficients and tawqeshim_induced without a word about lengths or order. Each pointer is
- * to n cells, or where it says so to n * n; these lengths are handed over as they are, so the arrays must have them.
+ * A table and its sheets by names, for tawqeshim_coefficients, tawqeshim_write_table and tawqeshim_induced without a word about lengths or
+ * order. Each pointer is to n cells, or where it says so to n * n; these lengths are handed over as they are, so the arrays must have them.
  */
 struct tawqeshim_table {
     const uint64_t *flows; /* n * n: x */
@@ -312,6 +338,14 @@ static inline void tawqeshim_table_sheets(
         n, table->flows, n * n, table->final_demand, n, table->exports, n, table->imports, n, table->value_added, n, table->production, n,
         sheets->inputs, n * n, sheets->value_shares, n, sheets->import_shares, n, sheets->domestic, n * n, sheets->demand, n,
         number, place);
+}
+
+/* tawqeshim_write_table: a table and its n rises as a file, in TAWQESHIM_FILE bytes. A table without rises has n zeros. */
+static inline void tawqeshim_table_file(
+    size_t n, const struct tawqeshim_table *table, const uint64_t *rises, uint8_t *file, uint8_t *number, size_t *place, size_t *length) {
+    tawqeshim_write_table(
+        n, table->flows, n * n, table->final_demand, n, table->exports, n, table->imports, n, table->value_added, n, table->production, n,
+        rises, n, file, TAWQESHIM_FILE, number, place, length);
 }
 
 /* tawqeshim_induced: what a production induces by the inputs, import_shares and value_shares of sheets, which are only read. */

@@ -6,13 +6,14 @@ target/libtawqeshim.so of the repository; the environment variable TAWQESHIM_LIB
 A table has n sectors, 1 to 40, counted from 0. Amounts are whole numbers of one money unit. Shares and coefficients are whole millionths,
 and every quotient is rounded down.
 
-    coefficients      from a table to its sheets: coefficients, shares, and the demand for domestic goods
-    production        from a demand for domestic goods to production
-    price             from direct price rises to settled ones
-    implied_demand    from production back to the demand behind it
-    induced           value added and imports that a production induces
-    inverse, row      the Leontief inverse with its ratios; a row of a sheet
-    read_table, page  from the bytes of a table file to its cells, or to the printed sheet
+    coefficients             from a table to its sheets: coefficients, shares, and the demand for domestic goods
+    production               from a demand for domestic goods to production
+    price                    from direct price rises to settled ones
+    implied_demand           from production back to the demand behind it
+    induced                  value added and imports that a production induces
+    inverse, row             the Leontief inverse with its ratios; a row of a sheet
+    read_table, write_table  from the bytes of a table file to its table, and back
+    page                     from the bytes of a table file to the printed sheet
 
 The worked table has two sectors:
 
@@ -43,7 +44,7 @@ What goes in
     Cells are copied for the call and never changed.
 
 What comes out
-    Lists of integers. A matrix is one list, row by row; `row` takes a row out of it.
+    Lists of integers. A matrix is one list, row by row; `row` takes a row out of it. A table file and a page are bytes.
 
 n and budget
     The number of sectors is taken from the length of a column, or from the sheet where there is none; `n` states it. `budget` is the
@@ -67,9 +68,9 @@ from numbers import Integral
 from pathlib import Path
 from typing import Any, NamedTuple, NoReturn, Optional, Protocol, Union
 
-__version__ = "1.0.0"
+__version__ = "1.1.0"
 __all__ = ["QUESTIONS", "Refused", "Coefficients", "Production", "Prices", "Induced", "Inverse", "Table", "coefficients", "production",
-           "price", "implied_demand", "induced", "inverse", "row", "read_table", "page"]
+           "price", "implied_demand", "induced", "inverse", "row", "read_table", "write_table", "page"]
 
 QUESTIONS: dict[int, str] = {
     1: "is n from 1 to 40?",
@@ -144,7 +145,7 @@ class Inverse(NamedTuple):
 
 
 class Table(NamedTuple):
-    """What a table file holds, and how many cells it names."""
+    """What a table file holds: a table with its rises, and how many cells the file names. `Table.of` makes one of lists."""
 
     sectors: int
     named: int
@@ -155,6 +156,20 @@ class Table(NamedTuple):
     value_added: list[int]
     production: list[int]
     rises: list[int]
+
+    @classmethod
+    def of(cls, flows: "Matrix", final_demand: "Column", exports: "Column", imports: "Column", value_added: "Column",
+           production: "Column", rises: "Optional[Column]" = None, *, n: Optional[int] = None) -> "Table":
+        """A table of lists, arrays or frames, each cell checked; without rises these are 0. `named` counts the cells that are not 0.
+
+        >>> Table.of([[1]], [4], [0], [0], [4], [5])
+        Table(sectors=1, named=4, flows=[1], final_demand=[4], exports=[0], imports=[0], value_added=[4], production=[5], rises=[0])
+        """
+        columns = [_column("final_demand", final_demand), _column("exports", exports), _column("imports", imports),
+                   _column("value_added", value_added), _column("production", production)]
+        n = _size(n, columns[0])
+        cells = [_matrix("flows", flows), *columns, _new_column(n) if rises is None else _column("rises", rises)]
+        return cls(n, sum(amount != 0 for amounts in cells for amount in amounts), *(amounts[:] for amounts in cells))
 
 
 class SupportsArray(Protocol):
@@ -168,6 +183,7 @@ Column = Union[Sequence[float], SupportsArray]
 Matrix = Union[Column, Sequence[Column]]
 
 _SECTORS = 40
+_FILE = 12643
 _PAGE = 2851
 _LARGEST = 2**64 - 1
 _EXACT_FLOATS = 2.0**53
@@ -587,6 +603,30 @@ def read_table(file: bytes) -> Table:
     _ask("read_table", _file(file), x, *columns, marks, counts=[sectors, named])
     n = sectors.value
     return Table(n, named.value, x[:n * n], *(column[:n] for column in columns))
+
+
+def write_table(table: Table) -> bytes:
+    """The bytes of a table's file. Asks 1, 2, 3; the rises come after production in the places of 3.
+
+    The cells that are not 0 stand in one order. So two tables have the same bytes exactly if n and all cells are the same, and reading the
+    bytes gives the table back. `named` is not looked at. Whether the table balances is not asked: `coefficients` and `page` do.
+
+    >>> table = Table.of([[100, 400], [300, 600]], [500, 900], [250, 560], [250, 360], [600, 1000], [1000, 2000])
+    >>> file = write_table(table)
+    >>> len(file), file[:9].hex(" ")
+    (91, '01 02 02 01 01 00 00 00 64')
+    >>> read_table(file) == table
+    True
+    >>> write_table(table._replace(rises=[0, 1_000_000_001]))
+    Traceback (most recent call last):
+    tawqeshim.Refused: question 3, place 15: is every amount within 1,000,000,000 and every share within one?
+    """
+    if not isinstance(table, Table):
+        raise TypeError(f"table is a {type(table).__name__}, not a Table: Table.of makes one of lists")
+    columns = [_column(name, getattr(table, name)) for name in Table._fields[3:]]
+    file, length = (ctypes.c_uint8 * _FILE)(), ctypes.c_size_t()
+    _ask("write_table", _whole("sectors", table.sectors), _matrix("flows", table.flows), *columns, file, counts=[length])
+    return bytes(file)[:length.value]
 
 
 def page(file: bytes) -> bytes:

@@ -90,7 +90,8 @@ static void limits(void) {
 
 static uint64_t sheet[TAWQESHIM_CELLS + 1], inverse[TAWQESHIM_CELLS + 1];
 static uint64_t columns[6][TAWQESHIM_SECTORS + 1], marks[TAWQESHIM_MARKS + 1];
-static uint8_t file[TAWQESHIM_FILE_READ + 1], page[TAWQESHIM_PAGE + 1];
+static uint8_t file[TAWQESHIM_FILE_READ + 1], archive[TAWQESHIM_FILE + 2], page[TAWQESHIM_PAGE + 1];
+static size_t count;
 
 static void invert(size_t n) {
     memset(sheet, 0, sizeof sheet);
@@ -123,6 +124,54 @@ static size_t longest_file(void) {
         }
     file[at++] = 8;
     return at;
+}
+
+/* A table with this amount in every cell, and this one in the last rise, into so many bytes. */
+static void write_file(size_t n, uint64_t amount, uint64_t last, size_t length) {
+    size_t cells = n * n <= TAWQESHIM_CELLS ? n * n : 0;
+    for (size_t k = 0; k < cells; k++)
+        sheet[k] = amount;
+    for (size_t k = 0; k < 6; k++)
+        for (size_t i = 0; i < n; i++)
+            columns[k][i] = amount;
+    columns[5][n - 1] = last;
+    memset(archive, 7, sizeof archive);
+    count = 7;
+    tawqeshim_write_table(n, sheet, cells, columns[0], n, columns[1], n, columns[2], n, columns[3], n, columns[4], n, columns[5], n,
+                          archive, length, &number, &place, &count);
+}
+
+/* A refused file: nothing but zeros, as far as it was lent. */
+static int is_refused(size_t length) {
+    for (size_t k = 0; k < length; k++)
+        if (archive[k] != 0)
+            return 0;
+    return count == 0 && archive[length] == 7;
+}
+
+static void files(void) {
+    const uint64_t limit = TAWQESHIM_AMOUNT_LIMIT;
+    static const uint8_t first[9] = {1, 40, 2, 1, 1, 0x3b, 0x9a, 0xca, 0x00}, end[7] = {9, 40, 0, 0, 0, 1, 8};
+    write_file(TAWQESHIM_SECTORS, limit, 1, TAWQESHIM_FILE);
+    answers(TAWQESHIM_ACCEPTED, 0, "a table of the most sectors, with amounts at their limit");
+    expect(count == TAWQESHIM_FILE, "a table without a zero is not the longest file");
+    expect(memcmp(archive, first, 9) == 0 && memcmp(archive + count - 7, end, 7) == 0, "the longest file's first cell or its end");
+    expect(archive[TAWQESHIM_FILE] == 7, "a byte beyond a file changed");
+    write_file(1, 0, 0, TAWQESHIM_FILE);
+    answers(TAWQESHIM_ACCEPTED, 0, "a table of zeros");
+    expect(count == 3 && memcmp(archive, "\1\1\10", 4) == 0 && archive[TAWQESHIM_FILE - 1] == 0, "the file of zeros");
+
+    write_file(TAWQESHIM_SECTORS, limit, limit + 1, TAWQESHIM_FILE);
+    answers(TAWQESHIM_REFUSED_AMOUNT, 40 * 40 + 5 * 40 + 39, "a rise over its limit");
+    expect(is_refused(TAWQESHIM_FILE), "a file that is refused with 3 is not 0");
+    write_file(TAWQESHIM_SECTORS + 1, 0, 0, TAWQESHIM_FILE);
+    answers(TAWQESHIM_REFUSED_SIZE, 0, "a table of a sector more than the most");
+    expect(is_refused(TAWQESHIM_FILE), "a file that is refused with 1 is not 0");
+    for (size_t other = TAWQESHIM_FILE - 1; other <= TAWQESHIM_FILE + 1; other += 2) {
+        write_file(1, 1, 1, other);
+        answers(TAWQESHIM_REFUSED_LENGTH, 0, "a file's bytes of another length");
+        expect(is_refused(other), "a file that is refused with 2 is not 0");
+    }
 }
 
 static void sizes(void) {
@@ -178,6 +227,14 @@ static void by_names(void) {
     answers(TAWQESHIM_ACCEPTED, 0, "the worked production");
     expect(value[0] == 599 && value[1] == 999 && imports[0] == 249 && imports[1] == 359, "the worked table's induced amounts");
 
+    static const char printed[] = "sector demand production value imports\n1 625 999 599 249\n2 1280 1999 999 359\nrounds 9\n";
+    const uint64_t rises[2] = {0, 0};
+    tawqeshim_table_file(2, &table, rises, archive, &number, &place, &count);
+    answers(TAWQESHIM_ACCEPTED, 0, "the worked table's file");
+    expect(count == 91 && archive[90] == 8 && archive[91] == 0, "the worked file's length");
+    tawqeshim_page(archive, count, page, TAWQESHIM_PAGE, &number, &place, &count);
+    expect(count == strlen(printed) && memcmp(page, printed, count) == 0, "the page of the worked table's file");
+
     size_t start, length;
     tawqeshim_row(2, flows, 4, 1, &start, &length);
     expect(start == 2 && length == 2, "a row");
@@ -190,6 +247,7 @@ int main(void) {
     questions();
     limits();
     sizes();
+    files();
     by_names();
     if (failures == 0)
         printf("header: constants, questions and names as the library has them\n");

@@ -1,7 +1,7 @@
 //! The calls as data: one case is one call with all its inputs and lent lengths. A case is
 //! answered twice, by the reference and by the library, and the two outcomes are compared.
 
-use crate::reference;
+use crate::reference::{self, Refusal, FILE_BYTES};
 
 /// The bytes that `tawqeshim_page` asks for.
 pub const PAGE_BYTES: usize = 2_851;
@@ -16,10 +16,11 @@ pub enum Call {
     Inverse,
     Row,
     ReadTable,
+    WriteTable,
     Page,
 }
 
-pub const CALLS: [Call; 9] = [
+pub const CALLS: [Call; 10] = [
     Call::Coefficients,
     Call::Production,
     Call::Price,
@@ -28,6 +29,7 @@ pub const CALLS: [Call; 9] = [
     Call::Inverse,
     Call::Row,
     Call::ReadTable,
+    Call::WriteTable,
     Call::Page,
 ];
 
@@ -42,6 +44,7 @@ impl Call {
             Call::Inverse => "inverse",
             Call::Row => "row",
             Call::ReadTable => "read_table",
+            Call::WriteTable => "write_table",
             Call::Page => "page",
         }
     }
@@ -58,6 +61,7 @@ impl Call {
             Call::Inverse => &[0, 1, 2, 7, 9],
             Call::Row => &[0, 1],
             Call::ReadTable => &[0, 2, 11, 12, 13, 14, 15],
+            Call::WriteTable => &[0, 1, 2, 3],
             Call::Page => &[0, 2, 3, 4, 5, 6, 7, 11, 12, 13, 14, 15],
         }
     }
@@ -68,12 +72,13 @@ impl Call {
             Call::Coefficients => vec![n * n, n, n, n, n, n],
             Call::Production | Call::Price | Call::ImpliedDemand => vec![n * n, n],
             Call::Induced => vec![n * n, n, n, n, n],
+            Call::WriteTable => vec![n * n, n, n, n, n, n, n],
             Call::Inverse | Call::Row => vec![n * n],
             Call::ReadTable | Call::Page => vec![],
         }
     }
 
-    /// The exact lengths of the output and work slices.
+    /// The exact lengths of the output and work slices; a file and a page are bytes.
     pub fn lent_lengths(self, n: usize) -> Vec<usize> {
         match self {
             Call::Coefficients => vec![n * n, n, n, n * n, n],
@@ -82,6 +87,7 @@ impl Call {
             Call::Inverse => vec![n * n, n, n],
             Call::Row => vec![],
             Call::ReadTable => reference::FILE_LENGTHS.to_vec(),
+            Call::WriteTable => vec![FILE_BYTES],
             Call::Page => vec![PAGE_BYTES],
         }
     }
@@ -116,14 +122,27 @@ impl Case {
     }
 }
 
-/// Everything a caller can see after a call.
+/// Everything a caller can see after a call: lent cells, or the lent bytes of a file or a page.
 #[derive(Clone, Debug, PartialEq, Eq)]
 pub struct Outcome {
     pub number: u8,
     pub place: usize,
     pub counts: [usize; 2],
     pub cells: Vec<Vec<u64>>,
-    pub printed: Vec<u8>,
+    pub bytes: Vec<u8>,
+}
+
+impl Outcome {
+    /// The outcome of a call that gives bytes: they are told by their length, and zeros follow them.
+    pub fn in_bytes(lent: usize, answer: Result<Vec<u8>, Refusal>) -> Outcome {
+        let (number, place, mut bytes) = match answer {
+            Ok(bytes) => (0, 0, bytes),
+            Err(no) => (no.number, no.place, vec![]),
+        };
+        let counts = [bytes.len(), 0];
+        bytes.resize(lent, 0);
+        Outcome { number, place, counts, cells: vec![], bytes }
+    }
 }
 
 /// What lies in lent cells before a call.
@@ -154,7 +173,14 @@ pub fn by_reference(case: &Case) -> Outcome {
             let (start, length) = reference::row(*n, &given[0], case.sector);
             Ok(reference::Given { cells: vec![], counts: [start, length] })
         }
-        Call::Page => return page_by_reference(case),
+        Call::WriteTable => {
+            let slices = std::array::from_fn(|k| &given[k][..]);
+            return Outcome::in_bytes(lent[0], reference::write_table(*n, slices, lent[0]));
+        }
+        Call::Page => {
+            let asked = if lent[0] == PAGE_BYTES { Ok(()) } else { Err(Refusal { number: 2, place: 0 }) };
+            return Outcome::in_bytes(lent[0], asked.map(|()| reference::page(&case.file)));
+        }
     };
     match answer {
         Ok(given) => Outcome {
@@ -162,26 +188,16 @@ pub fn by_reference(case: &Case) -> Outcome {
             place: 0,
             counts: given.counts,
             cells: given.cells,
-            printed: vec![],
+            bytes: vec![],
         },
         Err(no) => Outcome {
             number: no.number,
             place: no.place,
             counts: [0, 0],
             cells: lent.iter().map(|length| vec![0; *length]).collect(),
-            printed: vec![],
+            bytes: vec![],
         },
     }
-}
-
-fn page_by_reference(case: &Case) -> Outcome {
-    let mut printed = vec![0; case.lent[0]];
-    if printed.len() != PAGE_BYTES {
-        return Outcome { number: 2, place: 0, counts: [0, 0], cells: vec![], printed };
-    }
-    let page = reference::page(&case.file);
-    printed[..page.len()].copy_from_slice(&page);
-    Outcome { number: 0, place: 0, counts: [page.len(), 0], cells: vec![], printed }
 }
 
 /// The number to count a case under: the outcome's, or what a row or a page shows.
@@ -190,7 +206,7 @@ pub fn number_seen(case: &Case, outcome: &Outcome) -> u8 {
         Call::Row => u8::from(outcome.counts[1] == 0),
         Call::Page if outcome.number != 0 => outcome.number,
         Call::Page => {
-            let page = String::from_utf8_lossy(&outcome.printed[..outcome.counts[0]]);
+            let page = String::from_utf8_lossy(&outcome.bytes[..outcome.counts[0]]);
             let mut words = page.split_whitespace();
             match words.next() {
                 Some("refused") => words.next().and_then(|word| word.parse().ok()).unwrap_or(0),
@@ -295,6 +311,20 @@ extern "C" {
         sectors: *mut usize,
         named: *mut usize,
     );
+    fn tawqeshim_write_table(
+        n: usize,
+        x: *const u64, x_length: usize,
+        final_demand: *const u64, final_demand_length: usize,
+        exports: *const u64, exports_length: usize,
+        imports: *const u64, imports_length: usize,
+        value_added: *const u64, value_added_length: usize,
+        production: *const u64, production_length: usize,
+        rises: *const u64, rises_length: usize,
+        file: *mut u8, file_length: usize,
+        number: *mut u8,
+        place: *mut usize,
+        length: *mut usize,
+    );
     fn tawqeshim_page(
         file: *const u8, file_length: usize,
         out: *mut u8, out_length: usize,
@@ -309,14 +339,13 @@ const GUARD: usize = 3;
 
 /// The outcome the library gives. An error names an input or a foreign cell that was changed.
 pub fn by_library(case: &Case) -> Result<Outcome, &'static str> {
+    if matches!(case.call, Call::WriteTable | Call::Page) {
+        return bytes_by_library(case);
+    }
     let given = case.given.clone();
     let file = case.file.clone();
     let g = |k: usize| given[k].as_ptr();
     let gl = |k: usize| given[k].len();
-
-    if case.call == Call::Page {
-        return page_by_library(case, &file);
-    }
     let mut lent: Vec<Vec<u64>> =
         case.lent.iter().map(|length| (0..length + 2 * GUARD).map(junk).collect()).collect();
     let starts: Vec<*mut u64> =
@@ -386,7 +415,7 @@ pub fn by_library(case: &Case) -> Result<Outcome, &'static str> {
                     &mut number, &mut place, sectors, named,
                 );
             }
-            Call::Page => unreachable!(),
+            Call::WriteTable | Call::Page => unreachable!(),
         }
     }
     if given != case.given || file != case.file {
@@ -399,10 +428,16 @@ pub fn by_library(case: &Case) -> Result<Outcome, &'static str> {
         }
     }
     let cells = lent.iter().map(|cells| cells[GUARD..cells.len() - GUARD].to_vec()).collect();
-    Ok(Outcome { number, place, counts, cells, printed: vec![] })
+    Ok(Outcome { number, place, counts, cells, bytes: vec![] })
 }
 
-fn page_by_library(case: &Case, file: &[u8]) -> Result<Outcome, &'static str> {
+/// The same of a call that gives bytes.
+fn bytes_by_library(case: &Case) -> Result<Outcome, &'static str> {
+    let given = case.given.clone();
+    let file = case.file.clone();
+    let g = |k: usize| given[k].as_ptr();
+    let gl = |k: usize| given[k].len();
+
     let length = case.lent[0];
     let mut out = vec![0xa5; GUARD];
     out.extend(junk_bytes(length));
@@ -410,15 +445,22 @@ fn page_by_library(case: &Case, file: &[u8]) -> Result<Outcome, &'static str> {
     let start = out[GUARD..].as_mut_ptr();
     let (mut number, mut place, mut written) = (0xa5, 0xa5, 0xa5);
     unsafe {
-        tawqeshim_page(file.as_ptr(), file.len(), start, length, &mut number, &mut place, &mut written);
+        if case.call == Call::WriteTable {
+            tawqeshim_write_table(
+                case.n, g(0), gl(0), g(1), gl(1), g(2), gl(2), g(3), gl(3), g(4), gl(4), g(5), gl(5), g(6), gl(6),
+                start, length, &mut number, &mut place, &mut written,
+            );
+        } else {
+            tawqeshim_page(file.as_ptr(), file.len(), start, length, &mut number, &mut place, &mut written);
+        }
     }
-    if file != case.file {
+    if given != case.given || file != case.file {
         return Err("an input changed");
     }
-    let printed = out[GUARD..GUARD + length].to_vec();
     let kept = out[..GUARD].iter().chain(&out[GUARD + length..]).all(|byte| *byte == 0xa5);
     if !kept {
         return Err("a byte beyond the lent slice changed");
     }
-    Ok(Outcome { number, place, counts: [written, 0], cells: vec![], printed })
+    let bytes = out[GUARD..GUARD + length].to_vec();
+    Ok(Outcome { number, place, counts: [written, 0], cells: vec![], bytes })
 }

@@ -624,6 +624,9 @@ fn coefficients_case(rng: &mut Rng) -> Case {
 // Table files
 // ---------------------------------------------------------------------------------------------
 
+/// The kinds of F, E, M, V, X and the rises.
+const COLUMN_KINDS: [u8; 6] = [3, 4, 5, 6, 7, 9];
+
 fn record(kind: u8, sectors: &[usize], amount: u64) -> Vec<u8> {
     let mut record = vec![kind];
     record.extend(sectors.iter().map(|sector| *sector as u8));
@@ -631,7 +634,7 @@ fn record(kind: u8, sectors: &[usize], amount: u64) -> Vec<u8> {
     record
 }
 
-/// Every cell of a table as a record; zeros too where the call asks.
+/// Every cell of a table as a record, of its rises too where it has them; zeros too where the call asks.
 fn table_records(n: usize, table: &Table, zeros: bool) -> Vec<Vec<u8>> {
     let mut records = Vec::new();
     for (k, amount) in table[0].iter().enumerate() {
@@ -639,10 +642,10 @@ fn table_records(n: usize, table: &Table, zeros: bool) -> Vec<Vec<u8>> {
             records.push(record(2, &[k / n + 1, k % n + 1], *amount));
         }
     }
-    for slice in 1..=5 {
-        for (k, amount) in table[slice].iter().enumerate() {
+    for (column, kind) in table[1..].iter().zip(COLUMN_KINDS) {
+        for (k, amount) in column.iter().enumerate() {
             if zeros || *amount != 0 {
-                records.push(record(slice as u8 + 2, &[k + 1], *amount));
+                records.push(record(kind, &[k + 1], *amount));
             }
         }
     }
@@ -659,7 +662,7 @@ fn random_records(rng: &mut Rng, n: usize) -> Vec<Vec<u8>> {
             records.push(record(2, &[k / n + 1, k % n + 1], rng.upto(most)));
         }
     }
-    for kind in [3, 4, 5, 6, 7, 9] {
+    for kind in COLUMN_KINDS {
         for k in 0..n {
             if rng.chance(part, 10) {
                 records.push(record(kind, &[k + 1], rng.upto(most)));
@@ -804,15 +807,90 @@ fn read_case(rng: &mut Rng) -> Case {
     Case::of_file(Call::ReadTable, file(rng, false))
 }
 
+/// So many lent bytes, or another number of them now and then.
+fn lent_bytes(rng: &mut Rng, exact: usize) -> usize {
+    match rng.below(10) {
+        0 => exact - 1,
+        1 => rng.below(exact),
+        2 => 0,
+        3 => exact + rng.below(500),
+        _ => exact,
+    }
+}
+
 fn page_case(rng: &mut Rng) -> Case {
     let mut case = Case::of_file(Call::Page, file(rng, true));
-    case.lent[0] = match rng.below(10) {
-        0 => PAGE_BYTES - 1,
-        1 => rng.below(PAGE_BYTES),
-        2 => 0,
-        3 => PAGE_BYTES + rng.below(500),
-        _ => PAGE_BYTES,
+    case.lent[0] = lent_bytes(rng, PAGE_BYTES);
+    case
+}
+
+// ---------------------------------------------------------------------------------------------
+// Tables to be written as files
+// ---------------------------------------------------------------------------------------------
+
+/// Cells within the limit, for x and for each column with an own share of zeros and an own size.
+fn free_table(rng: &mut Rng, n: usize) -> Table {
+    let mut table = Vec::new();
+    for length in Call::WriteTable.given_lengths(n) {
+        let part = rng.of(&[0, 1, 5, 9, 10]);
+        let most = rng.of(&[1, 255, 256, 65_536, 1 << 24, AMOUNT]);
+        let cells = (0..length).map(|_| if rng.chance(part, 10) { most - rng.magnitude(most) } else { 0 });
+        table.push(cells.collect());
+    }
+    table
+}
+
+/// A table with rises whose amounts pass question 3, whether it balances or not.
+pub fn written_table(rng: &mut Rng, n: usize) -> Table {
+    if rng.chance(1, 3) {
+        let mut table = drawn_table(rng, n);
+        table.push(if rng.chance(1, 2) { vec![0; n] } else { (0..n).map(|_| rng.magnitude(AMOUNT)).collect() });
+        if table.iter().flatten().all(|cell| *cell <= AMOUNT) {
+            return table;
+        }
+    }
+    free_table(rng, n)
+}
+
+/// A file of the table in any order, in which some or all zeros are named.
+pub fn file_of(rng: &mut Rng, n: usize, table: &Table) -> Vec<u8> {
+    let mut records = table_records(n, table, true);
+    let zeros = rng.of(&[0, 1, 5, 10]);
+    records.retain(|record| record[record.len() - 4..] != [0; 4] || rng.chance(zeros, 10));
+    shuffle(rng, &mut records);
+    joined(n, &records)
+}
+
+/// What a file holds, if it is one: n, and x, F, E, M, V, X and the rises of n sectors.
+pub fn table_read(file: &[u8]) -> Option<(usize, Table)> {
+    let read = reference::read_table(file, &reference::FILE_LENGTHS).ok()?;
+    let n = read.counts[0];
+    let lengths = Call::WriteTable.given_lengths(n);
+    Some((n, read.cells.iter().zip(lengths).map(|(cells, length)| cells[..length].to_vec()).collect()))
+}
+
+fn write_case(rng: &mut Rng) -> Case {
+    let size = if rng.chance(1, 4) { size(rng) } else { 1 + rng.below(5) };
+    let (n, mut given) = match rng.below(4) {
+        // What was read from a file; its amounts may be over the limit.
+        0 => table_read(&file(rng, false)).unwrap_or_else(|| (1, vec![vec![0]; 7])),
+        _ => (size, written_table(rng, size)),
     };
+    // Cells at the limit, one over it, or far over it, the rises among them.
+    if rng.chance(1, 3) {
+        for _ in 0..rng.between(1, 2) {
+            let slice = rng.below(7);
+            let at = rng.spot(given[slice].len());
+            given[slice][at] = match rng.below(4) {
+                0 => 0,
+                1 => AMOUNT,
+                2 => AMOUNT + 1,
+                _ => strange_cell(rng),
+            };
+        }
+    }
+    let mut case = Case::new(Call::WriteTable, n, given);
+    case.lent[0] = lent_bytes(rng, reference::FILE_BYTES);
     case
 }
 
@@ -877,7 +955,7 @@ pub fn case(seed: u64, index: u64) -> Case {
     if index % 2_000 == 0 {
         return long_ring(rng);
     }
-    let mut case = match rng.below(108) {
+    let mut case = match rng.below(118) {
         0..=23 => coefficients_case(rng),
         24..=43 => rounds_case(rng, Call::Production),
         44..=55 => rounds_case(rng, Call::Price),
@@ -886,6 +964,7 @@ pub fn case(seed: u64, index: u64) -> Case {
         78..=82 => inverse_case(rng),
         83..=85 => row_case(rng),
         86..=99 => read_case(rng),
+        100..=109 => write_case(rng),
         _ => page_case(rng),
     };
     let by_size = !matches!(case.call, Call::ReadTable | Call::Page);

@@ -1,9 +1,11 @@
 //! Differential test: the library, through its C interface, against the paper.
 //!
 //! `differential [cases]` first runs the paper's worked cases, then as many pseudo-random cases
-//! (2,000,000 unless told otherwise), then settled amounts against exact balances. The seed is
-//! fixed and a case depends on its index alone, so every run is the same.
+//! (2,000,000 unless told otherwise), then settled amounts against exact balances, and files that
+//! are written and read. The seed is fixed and a case depends on its index alone, so every run is
+//! the same.
 
+mod archives;
 mod calls;
 mod exact;
 mod generate;
@@ -17,6 +19,7 @@ const SEED: u64 = 0x7461_7771_6573_6869;
 const CASES: u64 = 2_000_000;
 const THREADS: u64 = 2;
 const SHEETS: usize = 10_000;
+const TABLES: usize = 10_000;
 /// Every number that an answer can have, 0 with them.
 const NUMBERS: usize = reference::QUESTIONS + 1;
 
@@ -134,6 +137,7 @@ fn main() {
         }
     });
     let exact = exact::run(SEED, SHEETS);
+    let archives = archives::run(SEED, TABLES);
 
     for (case, told) in &tally.smallest {
         println!("{told}\n  {case:?}");
@@ -156,7 +160,12 @@ fn main() {
         "exact balances: {} sheets, {} pairs of demands, {} broken",
         exact.sheets, exact.pairs, exact.broken
     );
-    let differences = tally.differences + wrong + unseen + exact.broken as u64;
+    println!(
+        "archives: {} tables, {} pairs of tables, {} broken",
+        archives.tables, archives.pairs, archives.broken
+    );
+    let differences =
+        tally.differences + wrong + unseen + (exact.broken + archives.broken) as u64;
     println!("differential: {} cases, {differences} differences", tally.cases);
     if differences > 0 {
         exit(1);

@@ -1,4 +1,4 @@
-//! The paper "The competitive-import sheets", call by call, written from its words alone.
+//! The paper "The competitive-import sheets", and the later requests to it, call by call, written from their words alone.
 //!
 //! Plain and slow on purpose: sums are u128, every list is a fresh vector, nothing is shared
 //! with the library. A call takes its inputs and the lengths of the slices lent to it. It gives
@@ -15,6 +15,8 @@ pub const RISE_LIMIT: u128 = 1_000_000_000;
 pub const PRODUCTION_LIMIT: u128 = 1_600_000_000_000;
 /// "The table file": 1,600 cells for x, 40 for each of six columns, 46 work words.
 pub const FILE_LENGTHS: [usize; 8] = [1600, 40, 40, 40, 40, 40, 40, 46];
+/// "A writer for table files": it is "lent exactly 12,643 bytes for the file".
+pub const FILE_BYTES: usize = 12_643;
 /// "The printed sheet": the program's budget.
 pub const PAGE_BUDGET: u32 = 1_400;
 
@@ -479,6 +481,48 @@ pub fn read_table(file: &[u8], lent: &[usize]) -> Result<Given, Refusal> {
         }
         offset = after;
     }
+}
+
+// ---------------------------------------------------------------------------------------------
+// "A writer for table files" (document 02, ticket 1)
+// ---------------------------------------------------------------------------------------------
+
+/// The writer: x, F, E, M, V, X and the rises of n sectors, into so many lent bytes. Asks 1, 2, 3.
+/// It gives the bytes of the file, without the zeros after them.
+pub fn write_table(n: usize, slices: [&[u64]; 7], lent: usize) -> Result<Vec<u8>, Refusal> {
+    question_1(n)?;
+    // "n × n cells of x and n of each column", and the bytes.
+    let mut lengths = vec![(lent, FILE_BYTES), (slices[0].len(), n * n)];
+    lengths.extend(slices[1..].iter().map(|column| (column.len(), n)));
+    question_2(&lengths)?;
+    // "With the rises of kind 9 as a last column."
+    question_3(&slices.map(|slice| (slice, AMOUNT_LIMIT)))?;
+
+    // Every cell as its kind, its sector bytes and its amount.
+    let mut cells: Vec<(u8, Vec<u8>, u64)> = Vec::new();
+    for i in 0..n {
+        for (j, amount) in row_of(slices[0], n, i).enumerate() {
+            cells.push((2, vec![i as u8 + 1, j as u8 + 1], amount));
+        }
+    }
+    for (kind, column) in [3, 4, 5, 6, 7, 9].into_iter().zip(&slices[1..]) {
+        for (sector, amount) in (1..).zip(*column) {
+            cells.push((kind, vec![sector], *amount));
+        }
+    }
+    // "Cells in ascending kind, row and column, zeros left out."
+    cells.retain(|(_, _, amount)| *amount != 0);
+    cells.sort();
+
+    // "Kind 1, then cells …, then kind 8"; amounts are 4 bytes, highest first.
+    let mut file = vec![1, n as u8];
+    for (kind, sectors, amount) in cells {
+        file.push(kind);
+        file.extend(sectors);
+        file.extend((0..4).rev().map(|place| (amount / 256_u64.pow(place) % 256) as u8));
+    }
+    file.push(8);
+    Ok(file)
 }
 
 // ---------------------------------------------------------------------------------------------

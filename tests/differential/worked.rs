@@ -1,7 +1,8 @@
-//! The paper's worked cases P1 to P12, its slips and its printed sheet, with the paper's numbers.
+//! The paper's worked cases P1 to P12, its slips and its printed sheet, with the paper's numbers; and
+//! the worked table written as a file.
 
 use crate::calls::{Call, Case, Outcome};
-use crate::reference::{self, ONE};
+use crate::reference::{self, Refusal, FILE_BYTES, ONE};
 
 // "Worked table and its neighbours"
 const X: [u64; 4] = [100, 400, 300, 600];
@@ -50,12 +51,12 @@ fn rounds(call: Call, sheet: &[u64], start: &[u64], budget: u32) -> Case {
 
 fn accepted(count: usize, cells: &[&[u64]]) -> Outcome {
     let cells = cells.iter().map(|slice| slice.to_vec()).collect();
-    Outcome { number: 0, place: 0, counts: [count, 0], cells, printed: vec![] }
+    Outcome { number: 0, place: 0, counts: [count, 0], cells, bytes: vec![] }
 }
 
 fn refused(case: &Case, number: u8, place: usize) -> Outcome {
     let cells = case.lent.iter().map(|length| vec![0; *length]).collect();
-    Outcome { number, place, counts: [0, 0], cells, printed: vec![] }
+    Outcome { number, place, counts: [0, 0], cells, bytes: vec![] }
 }
 
 /// The cases with what the paper says of them.
@@ -111,11 +112,49 @@ pub fn cases() -> Vec<(&'static str, Case, Outcome)> {
     for (slice, column) in columns.iter().enumerate() {
         read[slice + 1][..2].copy_from_slice(column);
     }
-    let whole = Outcome { number: 0, place: 0, counts: [2, 14], cells: read, printed: vec![] };
+    let whole = Outcome { number: 0, place: 0, counts: [2, 14], cells: read, bytes: vec![] };
     cases.push(("file", Case::of_file(Call::ReadTable, file()), whole));
     let empty = Case::of_file(Call::ReadTable, vec![]);
     let fifteen = refused(&empty, 15, 0);
     cases.push(("empty file", empty, fifteen));
+    cases.extend(writer_cases());
+    cases
+}
+
+/// The worked table with these rises, to be written.
+fn to_write(rises: [u64; 2]) -> Case {
+    let mut given = table().given;
+    given.push(rises.to_vec());
+    Case::new(Call::WriteTable, 2, given)
+}
+
+/// "A writer for table files", of the worked table: 91 bytes in ascending kind and cell.
+fn writer_cases() -> Vec<(&'static str, Case, Outcome)> {
+    let no = |number, place| Err(Refusal { number, place });
+    let written = |bytes| Outcome::in_bytes(FILE_BYTES, Ok(bytes));
+    let mut cases = vec![("written", to_write([0, 0]), written(file()))];
+    // A rise is a last record of kind 9, 1,000,000,000 is 3b 9a ca 00, and a zero is left out.
+    let mut rise = file();
+    rise.splice(90.., [9, 2, 0x3b, 0x9a, 0xca, 0x00, 8]);
+    cases.push(("written with a rise", to_write([0, 1_000_000_000]), written(rise)));
+    let mut without = to_write([0, 0]);
+    without.given[0][2] = 0;
+    let mut left_out = file();
+    left_out.drain(16..23);
+    cases.push(("written without a zero", without, written(left_out)));
+    let zeros = Call::WriteTable.given_lengths(40).iter().map(|length| vec![0; *length]).collect();
+    cases.push(("written zeros", Case::new(Call::WriteTable, 40, zeros), written(vec![1, 40, 8])));
+    // Refusals: the second rise is place n × n + 5n + 1.
+    let over = to_write([0, 1_000_000_001]);
+    cases.push(("a rise over", over, Outcome::in_bytes(FILE_BYTES, no(3, 2 * 2 + 5 * 2 + 1))));
+    for lent in [0, FILE_BYTES - 1, FILE_BYTES + 1] {
+        let case = Case { lent: vec![lent], ..to_write([0, 0]) };
+        cases.push(("other bytes lent", case, Outcome::in_bytes(lent, no(2, 0))));
+    }
+    for n in [0, 41] {
+        let case = Case { n, ..to_write([0, 0]) };
+        cases.push(("n written", case, Outcome::in_bytes(FILE_BYTES, no(1, 0))));
+    }
     cases
 }
 

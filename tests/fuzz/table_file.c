@@ -1,6 +1,7 @@
-/* A fuzz harness of the calls that take a table file, the reader and the page: any bytes as a file, in slices full of junk.
-   A refusal leaves every cell and count at 0; the marks are 0 after every call, and so is every byte after a page; a file that the
-   reader refuses prints that refusal; the file is never changed; nothing is written beside a slice. */
+/* A fuzz harness of the calls that take a table file or give one, the reader, the writer and the page: any bytes as a file, in slices full
+   of junk. A refusal leaves every cell, byte and count at 0; the marks are 0 after every call, and so is every byte after a page or a
+   written file; a file that the reader refuses prints that refusal; the file is never changed; nothing is written beside a slice. What was
+   read is written, unless question 3 refuses it; the written file is read as the same cells, and written again as the same bytes. */
 #include <stddef.h>
 #include <stdint.h>
 #include <stdio.h>
@@ -116,11 +117,87 @@ static void one_page(const uint8_t *file, size_t length, size_t out_length, uint
     for (size_t k = count; k < out_length; k++) assert(out[k] == 0);
 }
 
+/* A table as the reader leaves it: x, and the six columns. */
+struct table {
+    size_t n, named;
+    uint64_t cells[7][TAWQESHIM_CELLS];
+};
+
+static size_t cells_of(const struct table *t, size_t s) {
+    return s == 0 ? t->n * t->n : t->n;
+}
+
+static uint8_t read_into(const uint8_t *file, size_t length, struct table *t) {
+    uint64_t marks[TAWQESHIM_MARKS];
+    uint8_t number;
+    size_t place;
+#define COLUMN(s) t->cells[s], TAWQESHIM_SECTORS
+    tawqeshim_read_table(file, length, t->cells[0], TAWQESHIM_CELLS, COLUMN(1), COLUMN(2), COLUMN(3), COLUMN(4), COLUMN(5), COLUMN(6),
+                         marks, TAWQESHIM_MARKS, &number, &place, &t->n, &t->named);
+    return number;
+}
+
+/* The place of the first cell over the limit, or SIZE_MAX. */
+static size_t first_over(const struct table *t) {
+    size_t place = 0;
+    for (size_t s = 0; s < 7; s++)
+        for (size_t k = 0; k < cells_of(t, s); k++, place++)
+            if (t->cells[s][k] > TAWQESHIM_AMOUNT_LIMIT) return place;
+    return SIZE_MAX;
+}
+
+/* Writes a table into the bytes behind a guard, where one column may be a cell short. The number, and the file's length in *count. */
+static uint8_t write_from(const struct table *t, size_t short_column, uint8_t *bytes, size_t out_length, size_t *count) {
+    static struct table before;
+    before = *t;
+    memset(bytes, (uint8_t)JUNK, out_length + 2 * GUARD);
+    uint8_t number = 0xa5, *out = bytes + GUARD;
+    size_t place = SIZE_MAX;
+    *count = SIZE_MAX;
+#define GIVEN(s) t->cells[s], cells_of(t, s) - (s == short_column)
+    tawqeshim_write_table(t->n, GIVEN(0), GIVEN(1), GIVEN(2), GIVEN(3), GIVEN(4), GIVEN(5), GIVEN(6), out, out_length,
+                          &number, &place, count);
+
+    assert(memcmp(&before, t, sizeof before) == 0);
+    for (size_t k = 0; k < GUARD; k++) assert(bytes[k] == (uint8_t)JUNK && out[out_length + k] == (uint8_t)JUNK);
+    size_t over = first_over(t);
+    if (short_column < 7 || out_length != TAWQESHIM_FILE)
+        assert(number == TAWQESHIM_REFUSED_LENGTH && place == 0 && *count == 0);
+    else if (over != SIZE_MAX)
+        assert(number == TAWQESHIM_REFUSED_AMOUNT && place == over && *count == 0);
+    else
+        assert(number == TAWQESHIM_ACCEPTED && place == 0 && *count >= 3 && *count <= TAWQESHIM_FILE && out[*count - 1] == 8);
+    for (size_t k = *count; k < out_length; k++) assert(out[k] == 0);
+    return number;
+}
+
+/* What was read from an accepted file, written; read from there, and written again. */
+static void one_archive(const uint8_t *file, size_t length) {
+    static struct table read, again;
+    static uint8_t first[TAWQESHIM_FILE + 1 + 2 * GUARD], second[TAWQESHIM_FILE + 1 + 2 * GUARD];
+    size_t count, second_count;
+    assert(read_into(file, length, &read) == TAWQESHIM_ACCEPTED);
+    /* Now and then a column is a cell short, or there is a byte too many or too few. */
+    if (length % 8 == 7) {
+        size_t column = file[length / 2] % 9;
+        write_from(&read, column, first, column < 7 ? TAWQESHIM_FILE : TAWQESHIM_FILE + (column == 7 ? 1 : -1), &count);
+    }
+    if (write_from(&read, SIZE_MAX, first, TAWQESHIM_FILE, &count) != TAWQESHIM_ACCEPTED) return;
+    assert(count <= length);
+    assert(read_into(first + GUARD, count, &again) == TAWQESHIM_ACCEPTED);
+    assert(again.n == read.n && again.named <= read.named);
+    assert(memcmp(again.cells[0], read.cells[0], sizeof read.cells[0]) == 0);
+    for (size_t s = 1; s < 7; s++) assert(memcmp(again.cells[s], read.cells[s], TAWQESHIM_SECTORS * sizeof read.cells[s][0]) == 0);
+    assert(write_from(&again, SIZE_MAX, second, TAWQESHIM_FILE, &second_count) == TAWQESHIM_ACCEPTED);
+    assert(second_count == count && memcmp(first + GUARD, second + GUARD, TAWQESHIM_FILE) == 0);
+}
+
 int LLVMFuzzerTestOneInput(const uint8_t *file, size_t length) {
     if (length > ROOM) return 0;
     size_t place;
     uint8_t number = one_call(file, length, exact, &place);
     one_page(file, length, TAWQESHIM_PAGE, number, place);
+    if (number == TAWQESHIM_ACCEPTED) one_archive(file, length);
     /* Now and then one slice is a cell short or a cell long, and so is the page. */
     if (length % 8 == 7) {
         size_t lengths[SLICES];

@@ -1,5 +1,5 @@
-"""Tests of python/tawqeshim.py: refusals, what it takes as cells and what it does not, its library, and the worked table from its file to
-its page. Tests of numpy and pandas are skipped where these are not installed."""
+"""Tests of python/tawqeshim.py: refusals, what it takes as cells and what it does not, its library, the worked table from its file to its
+page, and tables written as files. Tests of numpy and pandas are skipped where these are not installed."""
 import ctypes
 import doctest
 import inspect
@@ -44,7 +44,9 @@ def table(**changed):
     return {"flows": FLOWS, **dict(zip(names, COLUMNS)), **changed}
 
 
-class Refusals(unittest.TestCase):
+class Refusing(unittest.TestCase):
+    """Helper: a call that is refused."""
+
     def refused(self, number, place, call, *given, **named):
         with self.assertRaises(t.Refused) as seen:
             call(*given, **named)
@@ -52,6 +54,8 @@ class Refusals(unittest.TestCase):
         self.assertEqual((no.number, no.place, no.question), (number, place, t.QUESTIONS[number]))
         self.assertEqual(str(no), f"question {number}, place {place}: {t.QUESTIONS[number]}")
 
+
+class Refusals(Refusing):
     def test_every_question(self):
         self.refused(1, 0, t.inverse, [])
         self.refused(1, 0, t.coefficients, [], [], [], [], [], [])
@@ -351,6 +355,116 @@ class Files(unittest.TestCase):
             for call in (t.page, t.read_table):
                 with self.assertRaisesRegex(TypeError, "^file is a "):
                     call(given)
+
+
+class Written(Refusing):
+    """Tables written as files."""
+
+    SLICES = ["flows", "final_demand", "exports", "imports", "value_added", "production", "rises"]
+    WORKED = t.Table(2, 14, FLOWS, *COLUMNS, [0, 0])
+    FILE = (ROOT / "examples/worked.table").read_bytes()
+
+    def records(self, file):
+        """The records of a file between the first and the end."""
+        records, at = [], 2
+        while file[at] != 8:
+            length = 7 if file[at] == 2 else 6
+            records.append(file[at:at + length])
+            at += length
+        return records
+
+    def tables(self):
+        yield self.WORKED
+        yield self.WORKED._replace(named=16, rises=[7, 1_000_000_000])
+        yield t.Table(1, 0, [0], [0], [0], [0], [0], [0], [0])
+        yield t.Table(1, 7, [1], [2], [3], [4], [5], [6], [7])
+        yield t.Table(40, 1840, list(range(1, 1601)), *([10**9 - 256 * k - i for i in range(40)] for k in range(6)))
+
+    def test_the_example_files(self):
+        for file in (ROOT / "examples").glob("*.table"):
+            self.assertEqual(t.write_table(t.read_table(file.read_bytes())), file.read_bytes(), file.name)
+
+    def test_a_written_file_reads_as_its_table(self):
+        for table in self.tables():
+            file = t.write_table(table)
+            self.assertEqual((type(file), len(file)), (bytes, 3 + sum(map(len, self.records(file)))))
+            self.assertEqual(t.read_table(file), table)
+            self.assertEqual(self.records(file), sorted(self.records(file)))
+            self.assertEqual(t.write_table(t.read_table(file)), file)
+        self.assertEqual(len(file), 12_643)
+
+    def test_one_file_of_a_table(self):
+        records = self.records(self.FILE)
+        named_zero = bytes([9, 2, 0, 0, 0, 0])
+        for other in (records[::-1], records[5:] + records[:5], [named_zero, *records], [*records[::-1], named_zero]):
+            file = bytes([1, 2]) + b"".join(other) + bytes([8])
+            self.assertNotEqual(file, self.FILE)
+            self.assertEqual(t.write_table(t.read_table(file)), self.FILE)
+        self.assertEqual(t.write_table(self.WORKED._replace(named=0)), self.FILE)
+
+    def test_tables_that_differ(self):
+        files = {t.write_table(table) for table in self.tables()}
+        for name in self.SLICES:
+            for k, amount in enumerate(getattr(self.WORKED, name)):
+                for other in {0, amount + 1, 256 * amount + 1, 10**9} - {amount}:
+                    cells = list(getattr(self.WORKED, name))
+                    cells[k] = other
+                    file = t.write_table(self.WORKED._replace(**{name: cells}))
+                    self.assertNotIn(file, files)
+                    files.add(file)
+        zeros = {t.write_table(t.Table.of([0] * n * n, *[[0] * n] * 5)) for n in range(1, 41)}
+        self.assertEqual(zeros, {bytes([1, n, 8]) for n in range(1, 41)})
+
+    def test_refusals(self):
+        for n in (0, 41, 2**64 - 1):
+            self.refused(1, 0, t.write_table, self.WORKED._replace(sectors=n))
+        self.refused(1, 0, t.write_table, t.Table.of([], [], [], [], [], []))
+        for name in self.SLICES:
+            cells = getattr(self.WORKED, name)
+            for other in ([], cells[1:], cells + [0], [10**9 + 1]):
+                self.refused(2, 0, t.write_table, self.WORKED._replace(**{name: other}))
+        place = 0
+        for name in self.SLICES:
+            cells = getattr(self.WORKED, name)
+            for k in range(len(cells)):
+                for over in (10**9 + 1, 2**32, 2**64 - 1):
+                    self.refused(3, place, t.write_table, self.WORKED._replace(**{name: cells[:k] + [over] + cells[k + 1:]}))
+                place += 1
+        self.refused(3, 2 * 2 + 5 * 2, t.write_table, self.WORKED._replace(rises=[10**9 + 1, 10**9 + 1]))
+        self.refused(3, 4, t.write_table, t.read_table(bytes([1, 2, 3, 1, 255, 255, 255, 255, 8])))
+
+    def test_tables_of_lists(self):
+        rows = [FLOWS[:2], FLOWS[2:]]
+        for flows, columns in ((FLOWS, COLUMNS), (rows, COLUMNS), (array("q", FLOWS), map(tuple, COLUMNS)),
+                               (tuple(map(tuple, rows)), [array("d", column) for column in COLUMNS])):
+            made = t.Table.of(flows, *columns)
+            self.assertEqual(made, self.WORKED)
+            self.assertEqual({type(cell) for name in self.SLICES for cell in getattr(made, name)}, {int})
+        self.assertEqual(t.Table.of(FLOWS, *COLUMNS, [0, 5]).named, 15)
+        self.assertEqual(t.Table.of(FLOWS, *COLUMNS, n=3).sectors, 3)
+        self.assertEqual(t.write_table(self.WORKED._replace(flows=rows, exports=(250.0, 560))), self.FILE)
+        self.assertEqual(t.coefficients(*t.Table.of(**table())[2:8]).demand, DEMAND)
+
+    def test_what_is_no_table(self):
+        for given in (None, 2, self.FILE, tuple(self.WORKED), list(self.WORKED), table(), (FLOWS, *COLUMNS)):
+            with self.assertRaisesRegex(TypeError, f"^table is a {type(given).__name__}, not a Table: "):
+                t.write_table(given)
+        for name in self.SLICES:
+            for error, text, wrong in ((TypeError, " is a dict, ", {0: 1, 1: 2}), (TypeError, " is a NoneType, ", None),
+                                       (ValueError, r"\[1\] is -7, below 0$", [0, -7]), (TypeError, r"\[0\] is True, ", [True, 0]),
+                                       (ValueError, r"\[1\] is 0.5, not a whole number$", [0, 0.5])):
+                with self.assertRaisesRegex(error, f"^{name}{text}"):
+                    t.write_table(self.WORKED._replace(**{name: wrong}))
+                if wrong is not None or name != "rises":
+                    with self.assertRaisesRegex(error, f"^{name}{text}"):
+                        t.Table.of(**{**table(), name: wrong})
+        for wrong in (-1, 2**64):
+            with self.assertRaisesRegex(ValueError, "^sectors is "):
+                t.write_table(self.WORKED._replace(sectors=wrong))
+        with self.assertRaisesRegex(TypeError, "^sectors is '2', not a whole number$"):
+            t.write_table(self.WORKED._replace(sectors="2"))
+        with self.assertRaisesRegex(ValueError, "^flows has 1 rows of 4 cells"):
+            t.write_table(self.WORKED._replace(flows=[FLOWS]))
 
 
 class Library(unittest.TestCase):

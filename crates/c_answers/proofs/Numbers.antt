@@ -13,8 +13,9 @@ use Rattle.model.specs.Table.{Table, fewSectors}
 use Rattle.model.specs.Rounds.{settling, inverseRounds}
 use Rattle.model.specs.Checks.{Report, reportRead, reportTold, Check, amountLimit, balanceChecks, countedOn, bounded, refuses, verdict, columnSums, columnsSettle, demandLeft, demandLimit, inducedAmounts, lengths, productionTotal, riseLimit, single, size}
 use Rattle.model.specs.Calls.{coefficientsReport, domesticCoefficients, impliedReport, inducedReport, inverseReport, matrixChecks, priceReport, productionReport, settlingChecks, tableChecks}
-use Rattle.model.specs.Contracts.{Derived, Produced, Priced, Implied, Induced, Inverted, Slices, FileRead, PagePrinted}
+use Rattle.model.specs.Contracts.{Derived, Produced, Priced, Implied, Induced, Inverted, Slices, FileRead, FileWritten, tableFrom, PagePrinted}
 use Rattle.model.specs.File.{Entry, Reading, answerOf, called, entryAt, fits, insideAt, kindAt, namedBefore, nextAt, reading, walk, wholeAt}
+use Rattle.model.specs.Writer.{written, writerChecks, writerReport}
 use Rattle.model.specs.Page.{page, pageLimit, pageReport}
 use Rattle.theory.proofs.Lists.{and-true}
 use Rattle.c_answers.specs.Told.{Told}
@@ -113,6 +114,11 @@ read-number x columns marks s =
     let whole = either (wholeAt s 0) sized (refusal 11 0 (omega arith)) in
     either (fits x columns marks) (either (eqb (length s) 0) (refusal 15 0 (omega arith)) whole) (refusal 2 0 (omega arith))
 
+-- ---- the writer
+pub written-number : (n : ℕ) (s : Slices) (file : ℕ) → Numbered (writerReport (tableFrom n s) file)
+unfolding writerReport
+written-number n s file = numbered (writerChecks (tableFrom n s) file) (length (written (tableFrom n s)) ∷ []) refl
+
 -- ---- the page call
 pub page-number : (len : ℕ) (s : List ℕ) → Numbered (pageReport len s)
 unfolding pageReport
@@ -150,6 +156,9 @@ module _ {number place : ℕ} {counts : List ℕ} where
     pub read-told : {file marks₀ marks : List ℕ} {s₀ s : Slices} → FileRead file s₀ marks₀ r s marks
         → FileRead file s₀ marks₀ (reportTold number place counts) s marks
     read-told {file} made = rw (as-told r told (made .answer) (read-number _ _ _ file .numbered)) made
+
+    pub written-told : {n : ℕ} {s : Slices} {file₀ file : List ℕ} → FileWritten n s file₀ r file → FileWritten n s file₀ (reportTold number place counts) file
+    written-told {n} {s} made = rw (as-told r told (made .answer) (written-number n s _)) made
 
     pub page-told : {file out₀ out : List ℕ} → PagePrinted file out₀ r out → PagePrinted file out₀ (reportTold number place counts) out
     page-told {file} made = rw (as-told r told (made .answer) (page-number _ file)) made

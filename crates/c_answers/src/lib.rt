@@ -3,8 +3,9 @@ use model::Answer;
 use model::Outcome;
 use model::PageWritten;
 use model::TableRead;
+use model::TableWritten;
 ghost use mathlib.Core.List.{[], _∷_};
-ghost use Rattle.model.specs.Checks.{report, reportPage, reportRead, reportRounds};
+ghost use Rattle.model.specs.Checks.{report, reportPage, reportRead, reportRounds, reportWritten};
 ghost use Rattle.c_answers.specs.Told.{Told};
 
 // An answer without a count.
@@ -75,6 +76,27 @@ pub fn tell_read(
             *place = 0;
             *sectors = n;
             *named = k;
+        }
+    }
+}
+
+// The writer's answer.
+pub fn tell_written(answer: TableWritten, number: &mut u8, place: &mut usize, length: &mut usize)
+    ensures { λ _. ⌜ Told (reportWritten answer) (now (number .exit)) (now (place .exit)) (now (length .exit) ∷ []) ⌝ }
+{
+    match answer {
+        TableWritten::Refused {
+            number: q,
+            place: p,
+        } => {
+            *number = q;
+            *place = p;
+            *length = 0;
+        }
+        TableWritten::Written { length: k } => {
+            *number = 0;
+            *place = 0;
+            *length = k;
         }
     }
 }

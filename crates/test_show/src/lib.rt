@@ -1,8 +1,9 @@
-// Printing for the test programs: answers and cells.
+// Printing for the test programs: answers, cells and bytes.
 use io::print_decimal;
 use libc::STDOUT_FILENO;
 use model::Answer;
 use model::Outcome;
+use model::TableWritten;
 
 pub fn show_outcome(outcome: Outcome) {
     match outcome {
@@ -21,6 +22,21 @@ pub fn show_answer(answer: Answer) {
     }
 }
 
+// The writer's answer; the length of the file, 0 if there is none.
+pub fn show_written(answer: TableWritten) -> usize {
+    match answer {
+        TableWritten::Written { length } => {
+            show_word(b" written");
+            show_cell(length as u64);
+            length
+        }
+        TableWritten::Refused { number, place } => {
+            show_refusal(number, place);
+            0
+        }
+    }
+}
+
 fn show_refusal(number: u8, place: usize) {
     show_word(b" refused");
     show_cell(number as u64);
@@ -36,6 +52,32 @@ pub fn show_cells(cells: &[u64]) {
     for i in 0..cells.len() {
         show_cell(cells[i]);
     }
+}
+
+fn show_byte(byte: u8) {
+    show_cell(byte as u64);
+}
+
+// So many bytes, and what the others hold together, by `or`.
+fn show_start(bytes: &[u8], count: usize) -> u8 {
+    let mut rest = 0u8;
+    for i in 0..bytes.len() {
+        if i < count {
+            show_byte(bytes[i]);
+        } else {
+            rest = rest | bytes[i];
+        }
+    }
+    rest
+}
+
+// A line's end: so many bytes after a colon, and what the others hold together after a bar.
+pub fn show_bytes(bytes: &[u8], count: usize) {
+    show_word(b":");
+    let rest = show_start(bytes, count);
+    show_word(b" |");
+    show_byte(rest);
+    show_end();
 }
 
 // A word.

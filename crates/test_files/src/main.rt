@@ -1,0 +1,97 @@
+// Runs the call that writes a table as a file on the worked table of document 01 and its neighbours, and prints each answer with the bytes of the
+// file, and after a bar what the bytes after the file hold together, by `or`. Every byte that is lent is 7 before the call.
+use file_writer::write_table;
+use model::FILE;
+use test_show::show_bytes;
+use test_show::show_word;
+use test_show::show_written;
+
+// Cuts the columns, one after the other, two amounts each; the rises are as many as are left.
+fn cut(n: usize, x: &[u64], columns: &[u64], file: &mut [u8]) {
+    if columns.len() < 10 {
+        return;
+    }
+    let length = show_written(write_table(
+        n,
+        x,
+        &columns[0..2],
+        &columns[2..4],
+        &columns[4..6],
+        &columns[6..8],
+        &columns[8..10],
+        &columns[10..],
+        file,
+    ));
+    show_bytes(file, length);
+}
+
+// A table of two sectors: the flows row by row, and final demand, exports, imports, value added, production and the rises.
+fn table(name: &[u8], n: usize, x: [u64; 4], columns: [u64; 12]) {
+    let mut file = [7u8; FILE];
+    show_word(name);
+    cut(n, &x, &columns, &mut file);
+}
+
+// The worked table with another flow and these rises.
+fn worked(name: &[u8], n: usize, flow: u64, rise: u64, second: u64) {
+    table(
+        name,
+        n,
+        [100, 400, flow, 600],
+        [
+            500,
+            900,
+            250,
+            560,
+            250,
+            360,
+            600,
+            1000,
+            1000,
+            2000,
+            rise,
+            second,
+        ],
+    );
+}
+
+fn written() {
+    worked(b"worked table", 2, 300, 0, 0);
+    worked(b"zero left out", 2, 0, 0, 0);
+    worked(b"rise at the limit", 2, 300, 0, 1000000000);
+    table(b"all zero", 2, [0; 4], [0; 12]);
+}
+
+fn refused() {
+    worked(b"flow over", 2, 1000000001, 1000000001, 0);
+    worked(b"rise over", 2, 300, 1000000001, 0);
+    worked(b"second rise over", 2, 300, 0, 18446744073709551615);
+    worked(b"no sectors", 0, 300, 0, 0);
+    worked(b"another n", 3, 300, 0, 0);
+}
+
+fn rises_short() {
+    let mut file = [7u8; FILE];
+    show_word(b"rises short");
+    cut(2, &[0; 4], &[0; 11], &mut file);
+}
+
+fn byte_short() {
+    let mut file = [7u8; FILE - 1];
+    show_word(b"a byte short");
+    cut(2, &[0; 4], &[0; 12], &mut file);
+}
+
+fn byte_more() {
+    let mut file = [7u8; FILE + 1];
+    show_word(b"a byte more");
+    cut(2, &[0; 4], &[0; 12], &mut file);
+}
+
+fn main() {
+    written();
+    refused();
+    rises_short();
+    byte_short();
+    byte_more();
+}
