@@ -25,45 +25,45 @@ use Rattle.cells.proofs.RowLaws.{row}
 use Rattle.file_encoding.proofs.WordLaws.{encode-append}
 
 -- the bytes of a slice by its word, and of slices by that word and those after it
-abbrev pub wordBytes : (word : ℕ) → List ℕ → List ℕ
-wordBytes word s = encodeAll (wordEntries word 0 s)
+abbrev pub wordEncoded : (word : ℕ) → List ℕ → List ℕ
+wordEncoded word s = encodeAll (wordEntries word 0 s)
 
-abbrev pub wordsBytes : (word : ℕ) → List (List ℕ) → List ℕ
-wordsBytes word ss = encodeAll (wordsEntries word ss)
+abbrev pub wordsEncoded : (word : ℕ) → List (List ℕ) → List ℕ
+wordsEncoded word ss = encodeAll (wordsEntries word ss)
 
 -- ---- slices written one after the other: the bytes of the first k stand in m, which was l, and j is the next place
 pub record Words (word : ℕ) (ss : List (List ℕ)) (at : ℕ) (l : List ℕ) (k : ℕ) (m : List ℕ) (j : ℕ) : Type 0 where
-  pub begun : Begun (wordsBytes word ss) at l m j (wordsBytes (word + k) (drop k ss))
+  pub begun : Begun (wordsEncoded word ss) at l m j (wordsEncoded (word + k) (drop k ss))
 
 pub words-none : (word : ℕ) (ss : List (List ℕ)) (at : ℕ) (l : List ℕ) → Words word ss at l 0 l at
 words-none word ss at l =
-    record { begun = leaves (wordsBytes (word + 0) ss) (ap (λ (w : ℕ). wordsBytes w ss) (sym (add-zero word))) (begin (wordsBytes word ss) at l) }
+    record { begun = leaves (wordsEncoded (word + 0) ss) (ap (λ (w : ℕ). wordsEncoded w ss) (sym (add-zero word))) (begin (wordsEncoded word ss) at l) }
 
 -- the slice that is next, and those after it
 words-first : (word : ℕ) (ss : List (List ℕ)) (k : ℕ) → k < length ss
-    → wordsBytes (word + k) (drop k ss) ≡ wordBytes (word + k) (getD ss k []) ++ wordsBytes (word + (k + 1)) (drop (k + 1) ss)
+    → wordsEncoded (word + k) (drop k ss) ≡ wordEncoded (word + k) (getD ss k []) ++ wordsEncoded (word + (k + 1)) (drop (k + 1) ss)
 words-first word ss k h =
     let later = drop (k + 1) ss in
     let next : word + k + 1 ≡ word + (k + 1) = omega arith in
-    ap (wordsBytes (word + k)) (drop-cons ss k [] h ∙ ap (λ (i : ℕ). getD ss k [] ∷ drop i ss) (sym (add-one k)))
+    ap (wordsEncoded (word + k)) (drop-cons ss k [] h ∙ ap (λ (i : ℕ). getD ss k [] ∷ drop i ss) (sym (add-one k)))
     ∙ encode-append (wordEntries (word + k) 0 (getD ss k [])) (wordsEntries (word + k + 1) later)
-    ∙ ap (λ (w : ℕ). wordBytes (word + k) (getD ss k []) ++ wordsBytes w later) next
+    ∙ ap (λ (w : ℕ). wordEncoded (word + k) (getD ss k []) ++ wordsEncoded w later) next
 
 module _ {word at k j : ℕ} {ss : List (List ℕ)} {l m : List ℕ} (p : Words word ss at l k m j) where
   -- a text that is the bytes of the slice that is next
-  pub words-room : {text : List ℕ} → k < length ss → text ≡ wordBytes (word + k) (getD ss k [])
-      → at + length (wordsBytes word ss) ≤ length l → j + length text ≤ length m
+  pub words-room : {text : List ℕ} → k < length ss → text ≡ wordEncoded (word + k) (getD ss k [])
+      → at + length (wordsEncoded word ss) ≤ length l → j + length text ≤ length m
   words-room {text} h e r =
       subst (λ (s : List ℕ). j + length s ≤ length m) (sym e)
-      (room-first (wordBytes (word + k) (getD ss k [])) (wordsBytes (word + (k + 1)) (drop (k + 1) ss)) (words-first word ss k h) r (p .begun))
+      (room-first (wordEncoded (word + k) (getD ss k [])) (wordsEncoded (word + (k + 1)) (drop (k + 1) ss)) (words-first word ss k h) r (p .begun))
 
-  pub words-more : {text o : List ℕ} {i : ℕ} → k < length ss → text ≡ wordBytes (word + k) (getD ss k []) → Wrote text j m o i → Words word ss at l (k + 1) o i
+  pub words-more : {text o : List ℕ} {i : ℕ} → k < length ss → text ≡ wordEncoded (word + k) (getD ss k []) → Wrote text j m o i → Words word ss at l (k + 1) o i
   words-more {text} {o} {i} h e w =
-      let later = wordsBytes (word + (k + 1)) (drop (k + 1) ss) in
+      let later = wordsEncoded (word + (k + 1)) (drop (k + 1) ss) in
       record { begun = go-on text later (words-first word ss k h ∙ ap (λ (s : List ℕ). s ++ later) (sym e)) (p .begun) w }
 
-  pub words-done : length ss ≤ k → Wrote (wordsBytes word ss) at l m j
-  words-done h = ended (ap (wordsBytes (word + k)) (drop-of-length-le ss {i = k} h)) (p .begun)
+  pub words-done : length ss ≤ k → Wrote (wordsEncoded word ss) at l m j
+  words-done h = ended (ap (wordsEncoded (word + k)) (drop-of-length-le ss {i = k} h)) (p .begun)
 
 -- ---- the rows of x
 take-small : (limit m : ℕ) (l : List ℕ) → ((k : ℕ) → cell l k ≤ limit) → (k : ℕ) → cell (take m l) k ≤ limit
@@ -85,14 +85,14 @@ module _ (n : ℕ) (x : List ℕ) (i : ℕ) where
       take-small limit (i * n + n - i * n) (drop (i * n) x)
       (λ k. subst (λ (a : ℕ). a ≤ limit) (sym (getD-drop (i * n) x k 0)) (h (i * n + k)))
 
-  pub row-bytes : i < n → wordBytes i (row n i x) ≡ wordBytes (0 + i) (getD (rows n n x) i [])
+  pub row-bytes : i < n → wordEncoded i (row n i x) ≡ wordEncoded (0 + i) (getD (rows n n x) i [])
   row-bytes h =
       let long : i * n + n - i * n ≡ n = omega arith in
-      ap₂ wordBytes (sym (zero-add i)) (ap (λ (m : ℕ). take m (drop (i * n) x)) long ∙ sym (rows-row n n x i h))
+      ap₂ wordEncoded (sym (zero-add i)) (ap (λ (m : ℕ). take m (drop (i * n) x)) long ∙ sym (rows-row n n x i h))
 
 -- ---- the whole: kind 1, the rows, the columns, kind 8
 pub table-parts : (t : Table)
-    → written t ≡ (1 ∷ t .sectors ∷ []) ++ (wordsBytes 0 (rows (t .sectors) (t .sectors) (t .flows)) ++ (wordsBytes sectorLimit (t .columns) ++ (8 ∷ [])))
+    → written t ≡ (1 ∷ t .sectors ∷ []) ++ (wordsEncoded 0 (rows (t .sectors) (t .sectors) (t .flows)) ++ (wordsEncoded sectorLimit (t .columns) ++ (8 ∷ [])))
 unfolding written tableEntries fileOf
 table-parts t =
     let n = t .sectors in

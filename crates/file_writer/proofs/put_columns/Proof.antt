@@ -11,7 +11,7 @@ use Rattle.model.specs.Numbers.{cell}
 use Rattle.model.specs.Table.{sectorLimit}
 use Rattle.model.specs.Checks.{amountLimit}
 use Rattle.model.specs.File.{columnKinds, columnWord, wordLimit}
-use Rattle.file_writer.proofs.TableLaws.{wordBytes, Words, words-none, words-room, words-more, words-done}
+use Rattle.file_writer.proofs.TableLaws.{wordEncoded, Words, words-none, words-room, words-more, words-done}
 use Rattle.file_writer.proofs.put_columns.Statement.{statement}
 use Rattle.file_writer.proofs.put_columns.Tie as tie
 
@@ -25,7 +25,7 @@ Done s = Words sectorLimit (columns s) (s .args .at) (s .args .file .now)
 -- so the next one may be
 next : (s : tie.Start) (k : ℕ) {m : List ℕ} {j : ℕ} → k < length columnKinds → Done s k m j
     → ((columnWord k < wordLimit) × (length (getD (columns s) k []) ≤ sectorLimit))
-    × (((i : ℕ) → cell (getD (columns s) k []) i ≤ amountLimit) × (j + length (wordBytes (columnWord k) (getD (columns s) k [])) ≤ length m))
+    × (((i : ℕ) → cell (getD (columns s) k []) i ≤ amountLimit) × (j + length (wordEncoded (columnWord k) (getD (columns s) k [])) ≤ length m))
 next s k h w = ((omega arith, s .pre .0 k h), (s .pre .1 .0 k, words-room w h refl (s .pre .1 .1)))
 
 -- after each call

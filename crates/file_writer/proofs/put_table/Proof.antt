@@ -9,7 +9,7 @@ use lib.ListN.{length}
 use Rattle.model.specs.Table.{Table, tableOf, sectorLimit}
 use Rattle.model.specs.Writer.{rows, written}
 use Rattle.theory.proofs.Stores.{Begun, begin, go-on, done, room, room-first}
-use Rattle.file_writer.proofs.TableLaws.{wordsBytes, table-parts}
+use Rattle.file_writer.proofs.TableLaws.{wordsEncoded, table-parts}
 use Rattle.file_writer.proofs.put_table.Statement.{statement}
 use Rattle.file_writer.proofs.put_table.Tie as tie
 
@@ -20,10 +20,10 @@ table s =
 
 -- its parts after kind 1
 abbrev flows : tie.Start → List ℕ
-flows s = let a = s .args in wordsBytes 0 (rows (a .n) (a .n) (a .x .now))
+flows s = let a = s .args in wordsEncoded 0 (rows (a .n) (a .n) (a .x .now))
 
 abbrev columns : tie.Start → List ℕ
-columns s = wordsBytes sectorLimit (table s .columns)
+columns s = wordsEncoded sectorLimit (table s .columns)
 
 abbrev opening : tie.Start → List ℕ
 opening s = 1 ∷ s .args .n ∷ []
