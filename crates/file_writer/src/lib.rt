@@ -7,6 +7,7 @@ use checks::next_within;
 use file_encoding::put_word;
 use model::AMOUNT_LIMIT;
 use model::Answer;
+use model::COLUMNS;
 use model::FILE;
 use model::SECTORS;
 use model::TableWritten;
@@ -141,7 +142,7 @@ fn check_written(
         value_added,
         production,
     );
-    next_within(amounts, n * n + 5 * n, AMOUNT_LIMIT, rises)
+    next_within(amounts, n * n + (COLUMNS - 1) * n, AMOUNT_LIMIT, rises)
 }
 
 // Writes a table as a file, into 12,643 bytes; the bytes after the file are 0. After a refusal every byte is 0. What it promises is `FileWritten`.

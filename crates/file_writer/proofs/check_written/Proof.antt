@@ -82,5 +82,5 @@ check-written-spec =
     tie.close
     (tie.spec
     (λ c. search needs) (λ c. search needs) (λ c κs. search needs) (λ c. search needs) (λ c. search needs) returns returns-2
-    check-amounts-requires (λ c. omega (arith, square (c .before .before))) (λ c. omega (arith, square (c .before .before)))
+    check-amounts-requires (λ c. omega (arith, square (c .before .before))) (λ c. search needs) (λ c. omega (arith, square (c .before .before)))
     (λ c. omega (arith, square (c .before .before))) next-within-requires returns-3)
