@@ -2,13 +2,13 @@
 use mathlib.Core.List.{List, [], _∷_, _++_, append-assoc}
 use mathlib.Core.Path.{_≡_, sym, ap, ap₂, subst, _∙_}
 use Prim.Native.Nat.{ℕ, zero, suc, _+_, _*_, _-_, _≤_, _<_, zero-le}
-use native.Mathlib.Nat.{add-zero, zero-add, zero-mul, not-suc-le-zero, le-of-suc-le-suc}
+use native.Mathlib.Nat.{add-zero, zero-add}
 use native.Mathlib.Numerals.{add-one}
 use native.Mathlib.Omega.{arith}
 use borrow.Author.Tests.{eqb-true}
 use lib.Dec.{lit<}
 use lib.ListN.{length, getD, take, drop, replicate, drop-of-length-le, length-replicate}
-use lib.Seq.{sets, getD-drop, drop-drop, drop-cons}
+use lib.Seq.{sets, getD-drop, drop-cons}
 use Rattle.model.specs.Numbers.{cell}
 use Rattle.model.specs.Table.{Table, sectorLimit}
 use Rattle.model.specs.Checks.{Check, accepts, refuses, report, verdict}
@@ -20,9 +20,10 @@ use Rattle.model.specs.declared.Answer.the-variants.{Accepted, Refused}
 use Rattle.theory.proofs.Verdicts.{AllPass, answered-pass, answered-on, answered-stop}
 use Rattle.theory.proofs.Stores.{Wrote, Begun, begin, go-on, leaves, ended, room-first, over-zeros}
 use Rattle.theory_tables.specs.Tables.{TableSizes, TableAmounts}
+use Rattle.theory_files.proofs.Encoding.{encode-append}
+use Rattle.theory_archives.proofs.Cells.{row-is}
 use Rattle.theory_archives.proofs.Archives.{written-fits, accepted-fit, file-written}
 use Rattle.cells.proofs.RowLaws.{row}
-use Rattle.file_encoding.proofs.WordLaws.{encode-append}
 
 -- the bytes of a slice by its word, and of slices by that word and those after it
 abbrev pub wordEncoded : (word : ℕ) → List ℕ → List ℕ
@@ -72,31 +73,24 @@ take-small limit (suc m) [] h k = zero-le
 take-small limit (suc m) (a ∷ l) h zero = h 0
 take-small limit (suc m) (a ∷ l) h (suc k) = take-small limit m l (λ j. h (suc j)) k
 
-rows-row : (n k : ℕ) (x : List ℕ) (i : ℕ) → i < k → getD (rows n k x) i [] ≡ take n (drop (i * n) x)
-rows-row n zero x i h = absurd (not-suc-le-zero h)
-rows-row n (suc k) x zero h = ap (λ (m : ℕ). take n (drop m x)) (sym (zero-mul n))
-rows-row n (suc k) x (suc i) h =
-    let next : n + i * n ≡ suc i * n = omega arith in
-    rows-row n k (drop n x) i (le-of-suc-le-suc h) ∙ ap (take n) (drop-drop (i * n) n x ∙ ap (λ (m : ℕ). drop m x) next)
-
 module _ (n : ℕ) (x : List ℕ) (i : ℕ) where
   pub row-small : (limit : ℕ) → ((k : ℕ) → cell x k ≤ limit) → (k : ℕ) → cell (row n i x) k ≤ limit
   row-small limit h =
       take-small limit (i * n + n - i * n) (drop (i * n) x)
       (λ k. subst (λ (a : ℕ). a ≤ limit) (sym (getD-drop (i * n) x k 0)) (h (i * n + k)))
 
-  pub row-bytes : i < n → wordEncoded i (row n i x) ≡ wordEncoded (0 + i) (getD (rows n n x) i [])
+  pub row-bytes : i < n → wordEncoded i (row n i x) ≡ wordEncoded (0 + i) (getD (rows n x) i [])
   row-bytes h =
       let long : i * n + n - i * n ≡ n = omega arith in
-      ap₂ wordEncoded (sym (zero-add i)) (ap (λ (m : ℕ). take m (drop (i * n) x)) long ∙ sym (rows-row n n x i h))
+      ap₂ wordEncoded (sym (zero-add i)) (ap (λ (m : ℕ). take m (drop (i * n) x)) long ∙ sym (row-is n x i h))
 
 -- ---- the whole: kind 1, the rows, the columns, kind 8
 pub table-parts : (t : Table)
-    → written t ≡ (1 ∷ t .sectors ∷ []) ++ (wordsEncoded 0 (rows (t .sectors) (t .sectors) (t .flows)) ++ (wordsEncoded sectorLimit (t .columns) ++ (8 ∷ [])))
+    → written t ≡ (1 ∷ t .sectors ∷ []) ++ (wordsEncoded 0 (rows (t .sectors) (t .flows)) ++ (wordsEncoded sectorLimit (t .columns) ++ (8 ∷ [])))
 unfolding written tableEntries fileOf
 table-parts t =
     let n = t .sectors in
-    let flows = wordsEntries 0 (rows n n (t .flows)) in
+    let flows = wordsEntries 0 (rows n (t .flows)) in
     let columns = wordsEntries sectorLimit (t .columns) in
     ap (λ (s : List ℕ). 1 ∷ n ∷ (s ++ (8 ∷ []))) (encode-append flows columns)
     ∙ ap (λ (s : List ℕ). 1 ∷ n ∷ s) (append-assoc (encodeAll flows) (encodeAll columns) (8 ∷ []))

@@ -29,9 +29,9 @@ ghost use Rattle.theory_tables.specs.Tables.{TableAmounts, TableSizes};
 fn put_rows(n: usize, x: &[u64], at: usize, file: &mut [u8]) -> usize
     requires { ⌜ (n ≤ sectorLimit) × (length (now x) ≡ n * n) ⌝ }
     requires { ⌜ ((k : ℕ) → cell (now x) k ≤ amountLimit) ⌝ }
-    requires { ⌜ at + length (encodeAll (wordsEntries 0 (rows n n (now x)))) ≤ length (now file) ⌝ }
-    ensures { λ r. ⌜ r ≡ at + length (encodeAll (wordsEntries 0 (rows n n (now (x .entry))))) ⌝ }
-    ensures { λ _. ⌜ now (file .exit) ≡ sets (now (file .entry)) at (encodeAll (wordsEntries 0 (rows n n (now (x .entry))))) ⌝ }
+    requires { ⌜ at + length (encodeAll (wordsEntries 0 (rows n (now x)))) ≤ length (now file) ⌝ }
+    ensures { λ r. ⌜ r ≡ at + length (encodeAll (wordsEntries 0 (rows n (now (x .entry))))) ⌝ }
+    ensures { λ _. ⌜ now (file .exit) ≡ sets (now (file .entry)) at (encodeAll (wordsEntries 0 (rows n (now (x .entry))))) ⌝ }
 {
     let mut next = at;
     for i in 0..n {

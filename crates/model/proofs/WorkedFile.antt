@@ -34,6 +34,7 @@ unfolding encode fileOf wholeAt insideAt entryAt walk reading
 worked-file = (refl, refl, refl, refl)
 
 -- ---- the writer
+-- the worked table with these rises
 abbrev workedTable : List ℕ → Table
 workedTable rises =
     tableOf 2 (100 ∷ 400 ∷ 300 ∷ 600 ∷ [])

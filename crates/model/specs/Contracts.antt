@@ -139,7 +139,7 @@ pub record FileWritten (n : ℕ) (s : Slices) (file₀ : Bytes) (r : Report) (fi
   pub answer : r ≡ writerReport (tableFrom n s) (length file₀)
   pub outputs : file ≡ output r (length file₀) (fileBytes (tableFrom n s))
   pub archived : r .accepted ≡ true → Archived (tableFrom n s) (take (bytesOf r) file) file
-  -- "what was read from any accepted file whose amounts pass question 3" is accepted
+  -- "what was read from any accepted file whose amounts pass question 3" is accepted, and so has the file of `archived`
   pub rewrites : (z : Bytes) (es : List Entry) → reading z ≡ Reading.table n es → returned (reading z) ≡ tableFrom n s
       → verdict (tableAmounts (tableFrom n s)) [] .accepted ≡ true → length file₀ ≡ fileLimit → r .accepted ≡ true
 

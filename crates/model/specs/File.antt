@@ -1,10 +1,10 @@
 -- Document 01, "The table file". A file is a list of bytes: a record for n, records for named cells in any order, and an end.
 use mathlib.Core.Bool.{Bool, true, false, _&&_, _||_, cond}
-use mathlib.Core.List.{List, [], _∷_, _++_, map}
+use mathlib.Core.List.{List, [], _∷_, _++_}
 use Prim.Native.Nat.{ℕ, zero, suc, _+_, _*_, _-_, _/_, _%_, _<_}
 use lib.Dec.{eqb, leb, ltb}
 use lib.ListN.{length, set, take, replicate}
-use Rattle.model.specs.Numbers.{Cells, all, tabulate, cell}
+use Rattle.model.specs.Numbers.{Cells, all, tabulateCells, cell}
 use Rattle.model.specs.Table.{Table, tableOf, sectorLimit, sheetLimit, fewSectors}
 use Rattle.model.specs.Bytes.{Bytes}
 use Rattle.model.specs.declared.TableRead.{TableRead}
@@ -159,13 +159,14 @@ abbrev pub columnOf : (word : ℕ) → List Entry → Cells
 columnOf word [] = replicate sectorLimit 0
 columnOf word (e ∷ es) = cond (eqb (e .word) word) (set (columnOf word es) (e .position) (e .amount)) (columnOf word es)
 
--- the table that a reading names, with the first k of its columns: of x the first n × n cells, of each column the first n
 module _ (k n : ℕ) (es : List Entry) where
+  -- the first n cells of column c
   abbrev cellsRead : ℕ → Cells
   cellsRead c = take n (columnOf (columnWord c) es)
 
+  -- the table that a reading names, with the first k of its columns: of x it has the first n × n cells
   abbrev pub tableNamed : Table
-  tableNamed = tableOf n (take (n * n) (flowsOf n es)) (map cellsRead (tabulate k (λ c. c)))
+  tableNamed = tableOf n (take (n * n) (flowsOf n es)) (tabulateCells k cellsRead)
 
 -- ---- the reader's call
 -- 2. "1,600 cells for x, 40 for each of six columns, 46 work words": by the lengths of the lent slices

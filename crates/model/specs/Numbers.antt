@@ -41,6 +41,11 @@ abbrev pub tabulate : ℕ → (ℕ → ℕ) → Cells
 tabulate zero f = []
 tabulate (suc n) f = f 0 ∷ tabulate n (λ i. f (suc i))
 
+-- the same of slices: f 0, .., f (n - 1), each of them cells
+abbrev pub tabulateCells : ℕ → (ℕ → Cells) → List Cells
+tabulateCells zero f = []
+tabulateCells (suc n) f = f 0 ∷ tabulateCells n (λ i. f (suc i))
+
 -- the number at place i of a list; 0 past its end
 abbrev pub cell : Cells → ℕ → ℕ
 cell xs i = getD xs i 0

@@ -87,9 +87,10 @@ inverseRounds n d budget = largest n (λ j. settling n (at n d) (unit n j) budge
 unfoldable pub dispersion : ℕ → Sheet → Cells
 dispersion n z = tabulate n (λ j. columnSum n z j * n * one / allCells n z)
 
--- A sector's row of a sheet: n cells from sector × n; empty where question 1 or 2 fails or the sector is not below n
+-- A sheet of so many cells has a row for a sector: questions 1 and 2 pass, and the sector is below n
 abbrev pub hasRow : (n cells sector : ℕ) → Bool
 hasRow n cells sector = fewSectors n && eqb (n * n) cells && ltb sector n
 
+-- A sector's row of a sheet: n cells from sector × n; empty where there is none
 unfoldable pub rowSlice : (n : ℕ) (d : Cells) (sector : ℕ) → Cells
 rowSlice n d i = cond (hasRow n (length d) i) (take n (drop (i * n) d)) []

@@ -2,10 +2,10 @@
 use mathlib.Core.Bool.{true, cond}
 use mathlib.Core.List.{List, [], _∷_, _++_, map}
 use mathlib.Core.Path.{_≡_}
-use Prim.Native.Nat.{ℕ, zero, suc, _+_, _*_, _≤_, _<_}
+use Prim.Native.Nat.{ℕ, suc, _+_, _*_, _≤_, _<_}
 use lib.Dec.{eqb}
 use lib.ListN.{length, take, drop}
-use Rattle.model.specs.Numbers.{Cells}
+use Rattle.model.specs.Numbers.{Cells, tabulateCells}
 use Rattle.model.specs.Table.{Table, tableOf, sectorLimit, fewSectors}
 use Rattle.model.specs.Bytes.{Bytes, padded}
 use Rattle.model.specs.Checks.{Report, Check, verdict, single, size, lengths, tableAmounts}
@@ -24,14 +24,13 @@ abbrev pub wordsEntries : (word : ℕ) → List Cells → List Entry
 wordsEntries word [] = []
 wordsEntries word (s ∷ ss) = wordEntries word 0 s ++ wordsEntries (word + 1) ss
 
--- the first k rows of x
-abbrev pub rows : (n k : ℕ) → Cells → List Cells
-rows n zero x = []
-rows n (suc k) x = take n x ∷ rows n k (drop n x)
+-- the rows of x: "row i of x starts at cell i × n"
+abbrev pub rows : (n : ℕ) → Cells → List Cells
+rows n x = tabulateCells n (λ i. take n (drop (i * n) x))
 
 -- "cells in ascending kind, row and column, zeros left out": the rows of x, then the columns in the order of their kinds
 unfoldable pub tableEntries : Table → List Entry
-tableEntries t = wordsEntries 0 (rows (t .sectors) (t .sectors) (t .flows)) ++ wordsEntries sectorLimit (t .columns)
+tableEntries t = wordsEntries 0 (rows (t .sectors) (t .flows)) ++ wordsEntries sectorLimit (t .columns)
 
 -- "kind 1, then cells …, then kind 8"
 unfoldable pub written : Table → Bytes

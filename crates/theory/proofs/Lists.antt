@@ -1,7 +1,7 @@
 -- Lists written from the front, lists made by a rule, searches, and the test for sameness. Assumes nothing.
 use mathlib.Core.Bool.{Bool, true, false, _&&_, false≢true}
 use mathlib.Core.List.{List, [], _∷_}
-use mathlib.Core.Path.{_≡_, refl, sym, ap, _∙_, subst⁻¹}
+use mathlib.Core.Path.{_≡_, refl, sym, ap, _∙_}
 use Prim.Native.Nat.{ℕ, zero, suc, _+_, _<_, _≤_, suc-le-suc, zero-le}
 use native.Mathlib.Nat.{not-suc-le-zero, le-of-suc-le-suc, zero-lt-suc, ne-of-lt, lt-of-lt-of-le, le-refl}
 use native.Mathlib.Decide.{decLt}
@@ -10,9 +10,9 @@ use native.Mathlib.Omega.{arith}
 use borrow.Author.Count.{below-more}
 use borrow.Author.Tests.{leb-true, eqb-true}
 use lib.Dec.{eqb, leb}
-use lib.ListN.{length, set, replicate, take, length-set, length-replicate, getD-replicate, List·getD-eq-default}
-use lib.Seq.{ext-getD, getD-set-same, getD-set-other, length-take-le, getD-take}
-use Rattle.model.specs.Numbers.{first, all, tabulate, cell, same}
+use lib.ListN.{length, getD, set, replicate, length-set, length-replicate, getD-replicate, List·getD-eq-default}
+use lib.Seq.{ext-getD, getD-set-same, getD-set-other}
+use Rattle.model.specs.Numbers.{first, all, tabulate, tabulateCells, cell, same}
 use Rattle.model.specs.Promises.{Equal}
 use Rattle.theory.specs.Slices.{Each}
 use Rattle.theory.proofs.Sums.{upto}
@@ -52,6 +52,16 @@ cell-tabulate zero f k h = absurd (not-suc-le-zero h)
 cell-tabulate (suc n) f zero h = refl
 cell-tabulate (suc n) f (suc k) h = cell-tabulate n (λ j. f (suc j)) k (le-of-suc-le-suc h)
 
+-- slices made by a rule
+pub count-slices : (k : ℕ) (f : ℕ → List ℕ) → length (tabulateCells k f) ≡ k
+count-slices zero f = refl
+count-slices (suc k) f = ap suc (count-slices k (λ i. f (suc i)))
+
+pub slice-made : (k : ℕ) (f : ℕ → List ℕ) (i : ℕ) → i < k → getD (tabulateCells k f) i [] ≡ f i
+slice-made zero f i h = absurd (not-suc-le-zero h)
+slice-made (suc k) f zero h = refl
+slice-made (suc k) f (suc i) h = slice-made k (λ j. f (suc j)) i (le-of-suc-le-suc h)
+
 -- a list of n cells that agrees with another list of n cells at all of them is that list
 pub agreed : (n i : ℕ) (l m : List ℕ) → length l ≡ n → length m ≡ n → n ≤ i → Agree l i (cell m) → l ≡ m
 agreed n i l m e f h p = ext-getD 0 l m (e ∙ sym f) (λ k lt. p k (omega arith))
@@ -86,13 +96,6 @@ module _ {n : ℕ} {f : ℕ → ℕ} {l : List ℕ} where
 
   pub front-done : {i : ℕ} → Front n f l i → n ≤ i → l ≡ tabulate n f
   front-done {i} p h = tabulated n i f l (p .whole) h (p .agree)
-
--- a part of an array of zeros
-pub zeros-part : (n m : ℕ) → n ≤ m → take {A = ℕ} n (replicate m 0) ≡ replicate n 0
-zeros-part n m h =
-    let zeros : List ℕ = replicate m 0 in
-    zeroed n n (take n zeros) (length-take-le n zeros (subst⁻¹ (λ (k : ℕ). n ≤ k) (length-replicate {A = ℕ} m 0) h)) (le-refl n)
-    (λ k lt. getD-take n zeros k 0 lt ∙ getD-replicate m k 0 0 (lt-of-lt-of-le lt h))
 
 -- ---- the first place below n at which a test fails
 -- the test passes at every place below i

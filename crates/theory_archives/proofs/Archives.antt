@@ -9,7 +9,7 @@ use native.Mathlib.Omega.{arith}
 use native.Mathlib.Nat.{not-suc-le-zero}
 use borrow.Author.Tests.{eq-eqb, le-leb}
 use lib.Dec.{eqb}
-use lib.ListN.{length, take, replicate, length-append, length-replicate, List·getD-map}
+use lib.ListN.{length, take, replicate, length-append, length-replicate, length-reverse, List·getD-map}
 use lib.Seq.{take-at}
 use Rattle.model.specs.Numbers.{cell}
 use Rattle.model.specs.Table.{Table, tableOf, sectorLimit}
@@ -190,7 +190,7 @@ archived n s f =
     }
 
 -- Theorem, for the reader: "what was read from any accepted file whose amounts pass question 3" is accepted
-rewritten : (n : ℕ) (s : Slices) (z : List ℕ) (es : List Entry) → reading z ≡ Reading.table n es → returned (reading z) ≡ tableFrom n s
+pub rewritten : (n : ℕ) (s : Slices) (z : List ℕ) (es : List Entry) → reading z ≡ Reading.table n es → returned (reading z) ≡ tableFrom n s
     → AllPass (tableAmounts (tableFrom n s)) → writerReport (tableFrom n s) fileLimit .accepted ≡ true
 unfolding writerReport
 rewritten n s z es e same amounts =
@@ -223,7 +223,7 @@ file-written n s {file₀} {file} {r} answer outputs =
     t = tableFrom n s
 
 -- ---- the two calls
--- Theorem, for the reader: `read_table` of the file, with slices of their lengths, tells n and leaves every cell of the table
+-- Theorem, for the reader: `read_table` of the file, with slices of their lengths, tells n and how many cells are not 0, and leaves every cell of the table
 module _ (n : ℕ) (s : Slices) (f : Fit (tableFrom n s)) (s₀ s′ : Slices) (marks₀ marks : List ℕ) (r : Report)
     (reads : FileRead (written (tableFrom n s)) s₀ marks₀ r s′ marks)
     (lent : fits (length (s₀ .flows)) (map length (columnsOf s₀)) (length marks₀) ≡ true)
@@ -232,8 +232,10 @@ module _ (n : ℕ) (s : Slices) (f : Fit (tableFrom n s)) (s₀ s′ : Slices) (
     unfolding called
     reading-into = rw lent (written-read (tableFrom n s) f)
 
-    pub read-accepts : r ≡ accepts (n ∷ length (reverse (tableEntries (tableFrom n s))) ∷ [])
-    read-accepts = reads .answer ∙ ap (λ (o : Reading). reportRead (answerOf o)) reading-into
+    pub read-accepts : r ≡ accepts (n ∷ length (tableEntries (tableFrom n s)) ∷ [])
+    read-accepts =
+        reads .answer ∙ ap (λ (o : Reading). reportRead (answerOf o)) reading-into
+        ∙ ap (λ (k : ℕ). accepts (n ∷ k ∷ [])) (length-reverse (tableEntries (tableFrom n s)))
 
     pub read-returns : tableOf n (take (n * n) (s′ .flows)) (map (take n) (columnsOf s′)) ≡ tableFrom n s
     read-returns =

@@ -5,11 +5,12 @@ use mathlib.Core.Path.{_≡_, refl, sym, ap, ap₂, _∙_, subst}
 use Prim.Native.Nat.{ℕ, suc, _+_, _≤_, _<_}
 use native.Mathlib.Omega.{arith}
 use native.Mathlib.Nat.{le-refl, zero-add, add-zero}
-use borrow.Author.Tests.{eq-eqb, ne-eqb, eqb-true, ltb-true, ltb-false}
+use borrow.Author.Tests.{eq-eqb, ne-eqb, eqb-true, eqb-false, ltb-true, ltb-false}
 use lib.Dec.{eqb, ltb}
 use Rattle.model.specs.Table.{sectorLimit}
 use Rattle.model.specs.File.{Entry, Within, namedBefore}
 use Rattle.model.specs.Writer.{order, Ascending}
+use Rattle.theory_files.proofs.Encoding.{made-same}
 use Rattle.theory_files.proofs.Files.{Fresh}
 use Rattle.theory_files.proofs.Readings.{AllWithin}
 
@@ -37,17 +38,25 @@ amount-other e es r h = rw h (zero-add (amountAt es r))
 pub order-once : (e f : Entry) → e .position < sectorLimit → f .position < sectorLimit → order e ≡ order f → (e .word ≡ f .word) × (e .position ≡ f .position)
 order-once e f h l r = (omega arith, omega arith)
 
-entry-same : (e f : Entry) → e .word ≡ f .word → e .position ≡ f .position → e .amount ≡ f .amount → e ≡ f
-entry-same e f w p a =
-    ap (λ (x : ℕ). made x (e .position) (e .amount)) w ∙ ap (λ (x : ℕ). made (f .word) x (e .amount)) p ∙ ap (made (f .word) (f .position)) a
-  where
-    made : ℕ → ℕ → ℕ → Entry
-    made w p a = record { word = w; position = p; amount = a }
-
 module _ (n : ℕ) (few : n ≤ sectorLimit) where
   -- a position that a table has
   low : (e : Entry) → Within n e → e .position < sectorLimit
   low e w = let p = w .place in omega arith
+
+  -- two cells are named alike where they have one place
+  named-alike : (e f : Entry) → Within n e → Within n f → eqb (e .word) (f .word) && eqb (e .position) (f .position) ≡ eqb (order e) (order f)
+  named-alike e f w v = go (eqb (e .word) (f .word)) (eqb (e .position) (f .position)) refl refl
+    where
+      differ : (order e ≡ order f → ⊥) → false ≡ eqb (order e) (order f)
+      differ h = sym (ne-eqb (order e) (order f) h)
+
+      go : (s t : Bool) → eqb (e .word) (f .word) ≡ s → eqb (e .position) (f .position) ≡ t → s && t ≡ eqb (order e) (order f)
+      go true true x y =
+          let p = eqb-true (e .word) (f .word) x in
+          let q = eqb-true (e .position) (f .position) y in
+          sym (eq-eqb (order e) (order f) (omega arith))
+      go true false x y = differ (λ r. eqb-false (e .position) (f .position) y (order-once e f (low e w) (low f v) r .1))
+      go false t x y = differ (λ r. eqb-false (e .word) (f .word) x (order-once e f (low e w) (low f v) r .0))
 
   pub from-lower : (j k : ℕ) (es : List Entry) → j ≤ k → Ascending n k es → Ascending n j es
   from-lower j k [] h a = tt
@@ -96,7 +105,7 @@ module _ (n : ℕ) (few : n ≤ sectorLimit) where
           let r : order e ≡ order f = omega arith in
           let place = order-once e f (low e (a .0)) (low f (b .0)) r in
           let amount : e .amount ≡ f .amount = sym (first-amount k e es a) ∙ same e (a .0) ∙ ap (amountAt (f ∷ fs)) r ∙ first-amount k f fs b in
-          ap₂ _∷_ (entry-same e f (place .0) (place .1) amount)
+          ap₂ _∷_ (made-same (place .0) (place .1) amount)
           (more (subst (λ (m : ℕ). Ascending n (suc m) fs) (sym r) (b .3)) (λ g w. tails g w r))
         where
           tails : (g : Entry) → Within n g → order e ≡ order f → amountAt es (order g) ≡ amountAt fs (order g)
@@ -123,15 +132,9 @@ module _ (n : ℕ) (few : n ≤ sectorLimit) where
 
   not-named : (k : ℕ) (es : List Entry) (e : Entry) → Before k es → Within n e → k ≤ order e → namedBefore es e ≡ false
   not-named k [] e b w h = refl
-  not-named k (f ∷ es) e b w h = go (eqb (f .word) (e .word)) (eqb (f .position) (e .position)) refl refl (not-named k es e (b .2) w h)
-    where
-      go : (s t : Bool) → eqb (f .word) (e .word) ≡ s → eqb (f .position) (e .position) ≡ t → namedBefore es e ≡ false → s && t || namedBefore es e ≡ false
-      go true true x y later =
-          let u = eqb-true (f .word) (e .word) x in
-          let v = eqb-true (f .position) (e .position) y in
-          absurd (let l = b .1 in omega arith)
-      go true false x y later = later
-      go false t x y later = later
+  not-named k (f ∷ es) e b w h =
+      let l = b .1 in
+      rw (named-alike f e (b .0) w, ne-eqb (order f) (order e) (λ r. omega arith)) (not-named k es e (b .2) w h)
 
   pub fresh : (k : ℕ) (before es : List Entry) → Before k before → Ascending n k es → Fresh n before es
   fresh k before [] b a = tt
@@ -151,17 +154,12 @@ distinct-reversed n [] fs f d = d
 distinct-reversed n (e ∷ es) fs f d = distinct-reversed n es (e ∷ fs) (f .2) ((f .1, d .0), (f .0, d .1))
 
 -- a cell that was not named has no amount
+neither : (s t : Bool) → s || t ≡ false → (s ≡ false) × (t ≡ false)
+neither true t e = absurd (false≢true (sym e))
+neither false t e = (refl, e)
+
 pub unnamed : (n : ℕ) → n ≤ sectorLimit → (es : List Entry) (e : Entry) → AllWithin n es → Within n e → namedBefore es e ≡ false → amountAt es (order e) ≡ 0
 unnamed n few [] e w h none = refl
-unnamed n few (f ∷ es) e w h none = let p = parts (eqb (f .word) (e .word) && eqb (f .position) (e .position)) (namedBefore es e) none in go (eqb (order f) (order e)) refl (p .0) (unnamed n few es e (w .1) h (p .1))
-  where
-    parts : (s t : Bool) → s || t ≡ false → (s ≡ false) × (t ≡ false)
-    parts true t e = absurd (false≢true (sym e))
-    parts false t e = (refl, e)
-
-    go : (b : Bool) → eqb (order f) (order e) ≡ b
-        → eqb (f .word) (e .word) && eqb (f .position) (e .position) ≡ false → amountAt es (order e) ≡ 0 → amountAt (f ∷ es) (order e) ≡ 0
-    go true x p later =
-        let same = order-once f e (low n few f (w .0)) (low n few e h) (eqb-true (order f) (order e) x) in
-        absurd (false≢true (sym p ∙ rw (eq-eqb (f .word) (e .word) (same .0), eq-eqb (f .position) (e .position) (same .1)) refl))
-    go false x p later = amount-other f es (order e) x ∙ later
+unnamed n few (f ∷ es) e w h none =
+    let p = neither _ _ none in
+    amount-other f es (order e) (sym (named-alike n few f e (w .0) h) ∙ p .0) ∙ unnamed n few es e (w .1) h (p .1)

@@ -4,24 +4,22 @@ use mathlib.Core.List.{List, [], _∷_, _++_, append-assoc}
 use mathlib.Core.Path.{_≡_, refl, sym, ap, ap₂, _∙_, subst}
 use Prim.Native.Nat.{ℕ, zero, suc, _+_, _*_, _≤_, _<_, suc-le-suc}
 use native.Mathlib.Omega.{arith}
-use native.Mathlib.Nat.{le-refl, zero-add, add-zero, zero-mul, not-suc-le-zero, le-of-suc-le-suc, zero-lt-suc}
+use native.Mathlib.Nat.{le-refl, le-trans, le-of-eq, suc-mul, mul-le-mul-right, zero-add, add-zero, zero-lt-suc}
 use borrow.Author.Tests.{eq-eqb, ne-eqb, eqb-true, eqb-false}
 use lib.Dec.{eqb}
-use lib.ListN.{length, getD, set, drop, replicate, length-drop, length-set, length-replicate}
+use lib.ListN.{length, getD, set, take, drop, replicate, length-drop, length-set, length-replicate}
 use lib.Seq.{length-take-le, getD-take, getD-drop, getD-set-same, getD-set-other}
-use Rattle.model.specs.Numbers.{cell}
+use Rattle.model.specs.Numbers.{cell, at}
 use Rattle.model.specs.Table.{sectorLimit}
 use Rattle.model.specs.File.{Entry, Within, wordLimit}
 use Rattle.model.specs.Writer.{wordEntries, wordsEntries, rows, order, Ascending}
 use Rattle.theory.specs.Slices.{Columns}
-use Rattle.theory.proofs.Lists.{cell-zeros}
+use Rattle.theory.proofs.Lists.{count-slices, slice-made, cell-zeros}
+use Rattle.theory_files.proofs.Encoding.{made}
 use Rattle.theory_files.proofs.Readings.{AllWithin}
 use Rattle.theory_archives.proofs.Ascending.{amountAt, amount-append, amount-here, amount-other, order-once, from-lower, Distinct, unnamed}
 
 -- ---- the named cells of words
-abbrev made : ℕ → ℕ → ℕ → Entry
-made w p a = record { word = w; position = p; amount = a }
-
 -- a word that a table of n sectors has
 abbrev pub Known : ℕ → ℕ → Type 0
 Known n word = (word < wordLimit) × (word < sectorLimit → word < n)
@@ -57,38 +55,34 @@ module _ (n : ℕ) (few : n ≤ sectorLimit) where
       (word-ascending word 0 s (k word (le-refl word) (omega arith)) (omega (arith, cs 0 (zero-lt-suc (length ss)))) later
       (from-lower n few (word * sectorLimit + sectorLimit) ((word + 1) * sectorLimit) later (omega arith) after)))
 
+-- the amounts of a word's cells are those of its first cell, 0 or not, and of the others
+word-first : (word p a : ℕ) (s : List ℕ) (r : ℕ) → amountAt (wordEntries word p (a ∷ s)) r ≡ amountAt (made word p a ∷ wordEntries word (p + 1) s) r
+word-first word p a s r = go (eqb a 0) (eqb (word * sectorLimit + p) r) refl refl
+  where
+    go : (b t : Bool) → eqb a 0 ≡ b → eqb (word * sectorLimit + p) r ≡ t → amountAt (wordEntries word p (a ∷ s)) r ≡ amountAt (made word p a ∷ wordEntries word (p + 1) s) r
+    go true true e f = rw (e, f, eqb-true a 0 e) (sym (zero-add (amountAt (wordEntries word (p + 1) s) r)))
+    go true false e f = rw (e, f) (sym (zero-add (amountAt (wordEntries word (p + 1) s) r)))
+    go false t e f = rw e refl
+
 -- at a place that is none of a word's positions
 word-away : (word p : ℕ) (s : List ℕ) → p + length s ≤ sectorLimit → (r : ℕ) → ((k : ℕ) → p ≤ k → k < sectorLimit → word * sectorLimit + k ≡ r → ⊥) → amountAt (wordEntries word p s) r ≡ 0
 word-away word p [] h r away = refl
-word-away word p (a ∷ s) h r away = go (eqb a 0) refl (word-away word (p + 1) s (omega arith) r (λ k g. away k (omega arith)))
-  where
-    go : (b : Bool) → eqb a 0 ≡ b → amountAt (wordEntries word (p + 1) s) r ≡ 0 → amountAt (wordEntries word p (a ∷ s)) r ≡ 0
-    go true e later = rw e later
-    go false e later = rw e (amount-other (made word p a) (wordEntries word (p + 1) s) r (ne-eqb (word * sectorLimit + p) r (away p (le-refl p) (omega arith))) ∙ later)
+word-away word p (a ∷ s) h r away =
+    word-first word p a s r
+    ∙ amount-other (made word p a) (wordEntries word (p + 1) s) r (ne-eqb (word * sectorLimit + p) r (away p (le-refl p) (omega arith)))
+    ∙ word-away word (p + 1) s (omega arith) r (λ k g. away k (omega arith))
 
 -- at one of them
-word-amount : (word p : ℕ) (s : List ℕ) → p + length s ≤ sectorLimit → (k : ℕ) → amountAt (wordEntries word p s) (word * sectorLimit + (p + k)) ≡ cell s k
-word-amount word p [] h k = refl
-word-amount word p (a ∷ s) h zero = go (eqb a 0) refl (word-away word (p + 1) s (omega arith) (word * sectorLimit + (p + 0)) (λ k g l e. omega arith))
-  where
-    go : (b : Bool) → eqb a 0 ≡ b → amountAt (wordEntries word (p + 1) s) (word * sectorLimit + (p + 0)) ≡ 0
-        → amountAt (wordEntries word p (a ∷ s)) (word * sectorLimit + (p + 0)) ≡ a
-    go true e later = rw e (later ∙ sym (eqb-true a 0 e))
-    go false e later =
-        let q = add-zero p in
-        rw e (ap (λ (k : ℕ). amountAt (made word p a ∷ wordEntries word (p + 1) s) (word * sectorLimit + k)) q
-        ∙ amount-here (made word p a) (wordEntries word (p + 1) s) (ap (λ (k : ℕ). amountAt (wordEntries word (p + 1) s) (word * sectorLimit + k)) (sym q) ∙ later))
-word-amount word p (a ∷ s) h (suc k) = go (eqb a 0) refl (word-amount word (p + 1) s (omega arith) k)
-  where
-    go : (b : Bool) → eqb a 0 ≡ b → amountAt (wordEntries word (p + 1) s) (word * sectorLimit + (p + 1 + k)) ≡ cell s k
-        → amountAt (wordEntries word p (a ∷ s)) (word * sectorLimit + (p + suc k)) ≡ cell s k
-    go b e later =
-        let q : p + suc k ≡ p + 1 + k = omega arith in
-        ap (λ (j : ℕ). amountAt (wordEntries word p (a ∷ s)) (word * sectorLimit + j)) q ∙ drop-head b e ∙ later
-      where
-        drop-head : (b : Bool) → eqb a 0 ≡ b → amountAt (wordEntries word p (a ∷ s)) (word * sectorLimit + (p + 1 + k)) ≡ amountAt (wordEntries word (p + 1) s) (word * sectorLimit + (p + 1 + k))
-        drop-head true e = rw e refl
-        drop-head false e = rw e (amount-other (made word p a) (wordEntries word (p + 1) s) (word * sectorLimit + (p + 1 + k)) (ne-eqb (word * sectorLimit + p) (word * sectorLimit + (p + 1 + k)) (λ z. omega arith)))
+word-amount : (word p : ℕ) (s : List ℕ) → p + length s ≤ sectorLimit → (k r : ℕ) → r ≡ word * sectorLimit + (p + k) → amountAt (wordEntries word p s) r ≡ cell s k
+word-amount word p [] h k r e = refl
+word-amount word p (a ∷ s) h zero r e =
+    let here : r ≡ word * sectorLimit + p = omega arith in
+    word-first word p a s r ∙ ap (amountAt (made word p a ∷ wordEntries word (p + 1) s)) here
+    ∙ amount-here (made word p a) (wordEntries word (p + 1) s) (word-away word (p + 1) s (omega arith) (word * sectorLimit + p) (λ k g l z. omega arith))
+word-amount word p (a ∷ s) h (suc k) r e =
+    word-first word p a s r
+    ∙ amount-other (made word p a) (wordEntries word (p + 1) s) r (ne-eqb (word * sectorLimit + p) r (λ z. omega arith))
+    ∙ word-amount word (p + 1) s (omega arith) k r (omega arith)
 
 module _ (n : ℕ) (few : n ≤ sectorLimit) where
   -- at a place that is in none of some words
@@ -106,9 +100,8 @@ module _ (n : ℕ) (few : n ≤ sectorLimit) where
   words-amount word [] cs c j h = refl
   words-amount word (s ∷ ss) cs zero j h =
       let r = (word + 0) * sectorLimit + j in
-      let q : r ≡ word * sectorLimit + (0 + j) = omega arith in
       let fits : 0 + length s ≤ sectorLimit = omega (arith, cs 0 (zero-lt-suc (length ss))) in
-      let here : amountAt (wordEntries word 0 s) r ≡ cell s j = ap (amountAt (wordEntries word 0 s)) q ∙ word-amount word 0 s fits j in
+      let here = word-amount word 0 s fits j r (omega arith) in
       let later = words-away (word + 1) ss (others n s ss cs) r (λ w k l g m e. omega arith) in
       amount-append (wordEntries word 0 s) (wordsEntries (word + 1) ss) r ∙ ap₂ _+_ here later ∙ add-zero (cell s j)
   words-amount word (s ∷ ss) cs (suc c) j h =
@@ -120,21 +113,21 @@ module _ (n : ℕ) (few : n ≤ sectorLimit) where
       amount-append (wordEntries word 0 s) (wordsEntries (word + 1) ss) r ∙ ap₂ _+_ here later ∙ zero-add (cell (getD ss c []) j)
 
 -- ---- the rows of x
-module _ (n : ℕ) where
-  pub rows-count : (k : ℕ) (x : List ℕ) → length (rows n k x) ≡ k
-  rows-count zero x = refl
-  rows-count (suc k) x = ap suc (rows-count k (drop n x))
+module _ (n : ℕ) (x : List ℕ) where
+  pub rows-count : length (rows n x) ≡ n
+  rows-count = count-slices n (λ i. take n (drop (i * n) x))
 
-  pub rows-columns : (k : ℕ) (x : List ℕ) → k * n ≤ length x → Columns n (rows n k x)
-  rows-columns zero x h c l = absurd (not-suc-le-zero l)
-  rows-columns (suc k) x h zero l = length-take-le n x (omega arith)
-  rows-columns (suc k) x h (suc c) l = rows-columns k (drop n x) (omega (arith, length-drop n x)) c (le-of-suc-le-suc l)
+  pub row-is : (i : ℕ) → i < n → getD (rows n x) i [] ≡ take n (drop (i * n) x)
+  row-is i h = slice-made n (λ i. take n (drop (i * n) x)) i h
 
-  pub rows-cell : (k : ℕ) (x : List ℕ) (i j : ℕ) → i < k → j < n → cell (getD (rows n k x) i []) j ≡ cell x (i * n + j)
-  rows-cell zero x i j h l = absurd (not-suc-le-zero h)
-  rows-cell (suc k) x zero j h l = getD-take n x j 0 l ∙ ap (cell x) (let z = zero-mul n in omega arith)
-  rows-cell (suc k) x (suc i) j h l =
-      rows-cell k (drop n x) i j (le-of-suc-le-suc h) l ∙ getD-drop n x (i * n + j) 0 ∙ ap (cell x) (omega arith)
+  pub rows-columns : length x ≡ n * n → Columns n (rows n x)
+  rows-columns e i h =
+      let lt = subst (λ (m : ℕ). i < m) rows-count h in
+      let long : i * n + n ≤ n * n = le-trans (le-of-eq (sym (suc-mul i n))) (mul-le-mul-right n lt) in
+      ap length (row-is i lt) ∙ length-take-le n (drop (i * n) x) (omega (arith, length-drop (i * n) x))
+
+  pub rows-cell : (i j : ℕ) → i < n → j < n → cell (getD (rows n x) i []) j ≡ at n x i j
+  rows-cell i j h l = ap (λ (s : List ℕ). cell s j) (row-is i h) ∙ getD-take n (drop (i * n) x) j 0 l ∙ getD-drop (i * n) x j 0
 
 -- ---- what a reader stores of named cells in a slice: the cells of some words, each in its own place
 module _ (n : ℕ) (few : n ≤ sectorLimit) (slice : List Entry → List ℕ) (belongs : ℕ → Bool) (index : ℕ → ℕ → ℕ) (size : ℕ)

@@ -1,22 +1,24 @@
 -- The named cells of a table, as its writer takes them and as a reader returns them: both hold the table's cells, and nothing else. Assumes nothing.
 use mathlib.Core.Bool.{Bool, true, false}
-use mathlib.Core.List.{List, [], map, reverse, append-nil}
+use mathlib.Core.List.{List, [], reverse, append-nil}
 use mathlib.Core.Path.{_≡_, refl, sym, ap, ap₂, _∙_, subst}
-use Prim.Native.Nat.{ℕ, zero, suc, _+_, _*_, _-_, _/_, _%_, _≤_, _<_}
+use Prim.Native.Nat.{ℕ, _+_, _*_, _-_, _/_, _%_, _≤_, _<_}
 use native.Mathlib.Omega.{arith}
-use native.Mathlib.Nat.{zero-add, add-zero, mul-le-mul, not-suc-le-zero, le-of-suc-le-suc, lt-of-lt-of-le}
+use native.Mathlib.Nat.{zero-add, add-zero, mul-le-mul, lt-of-lt-of-le}
 use borrow.Author.Tests.{ltb-true, ltb-false, lt-ltb, eqb-true, eq-eqb}
 use lib.Dec.{eqb, ltb}
 use lib.ListN.{length, getD, take}
 use lib.Seq.{length-take-le, getD-take, ext-getD}
-use Rattle.model.specs.Numbers.{tabulate, cell, at}
+use Rattle.model.specs.Numbers.{cell, at}
 use Rattle.model.specs.Table.{Table, tableOf, column, sectorLimit, sheetLimit}
 use Rattle.model.specs.File.{Entry, Within, columnKinds, columnWord, flowsOf, columnOf, tableNamed}
 use Rattle.model.specs.Writer.{rows, wordsEntries, tableEntries, order, Ascending}
 use Rattle.theory.specs.Slices.{Columns}
+use Rattle.theory.proofs.Lists.{slice-made}
 use Rattle.theory.proofs.Matrices.{place-once, place-row, place-column, place-cell}
 use Rattle.theory.proofs.Sums.{cell-in}
 use Rattle.theory_tables.specs.Tables.{TableSizes}
+use Rattle.theory_files.proofs.Encoding.{made}
 use Rattle.theory_files.proofs.Readings.{AllWithin}
 use Rattle.theory_archives.proofs.Ascending.{amountAt, amount-append, amount-reversed, from-lower, Same, Distinct}
 use Rattle.theory_archives.proofs.Cells.{Known, words-ascending, words-away, words-amount, rows-count, rows-columns, rows-cell, slice-length, slice-cell}
@@ -39,14 +41,14 @@ module _ (t : Table) (f : Fit t) where
   abbrev few : n ≤ sectorLimit
   few = f .sizes .few
 
-  abbrev lines : List (List ℕ)
-  lines = rows n n (t .flows)
+  abbrev flow-rows : List (List ℕ)
+  flow-rows = rows n (t .flows)
 
-  lines-columns : Columns n lines
-  lines-columns = rows-columns n n (t .flows) (omega (arith, f .sizes .flows))
+  rows-long : Columns n flow-rows
+  rows-long = rows-columns n (t .flows) (f .sizes .flows)
 
-  lines-known : (w : ℕ) → w < n → Known n w
-  lines-known w h = (omega (arith, few), λ _. h)
+  rows-known : (w : ℕ) → w < n → Known n w
+  rows-known w h = (omega (arith, few), λ _. h)
 
   columns-known : (w : ℕ) → sectorLimit ≤ w → w < sectorLimit + length (t .columns) → Known n w
   columns-known w h l = (omega (arith, f .count), λ g. absurd (omega arith))
@@ -59,42 +61,37 @@ module _ (t : Table) (f : Fit t) where
   pub entries-ascending : Ascending n 0 (tableEntries t)
   unfolding tableEntries
   entries-ascending =
-      let count = rows-count n n (t .flows) in
+      let count = rows-count n (t .flows) in
       let small = few in
-      words-ascending n few 0 lines lines-columns (λ w _ h. lines-known w (omega arith)) (wordsEntries sectorLimit (t .columns))
-      (from-lower n few ((0 + length lines) * sectorLimit) (sectorLimit * sectorLimit) (wordsEntries sectorLimit (t .columns)) (omega arith) columns-ascending)
+      words-ascending n few 0 flow-rows rows-long (λ w _ h. rows-known w (omega arith)) (wordsEntries sectorLimit (t .columns))
+      (from-lower n few ((0 + length flow-rows) * sectorLimit) (sectorLimit * sectorLimit) (wordsEntries sectorLimit (t .columns)) (omega arith) columns-ascending)
 
   pub entries-hold : Holds (tableEntries t) t
   unfolding tableEntries
   entries-hold =
-      let count = rows-count n n (t .flows) in
+      let count = rows-count n (t .flows) in
       let small = few in
       record {
         flows = λ i j h l.
             let r = i * sectorLimit + j in
-            let here : amountAt (wordsEntries 0 lines) r ≡ at n (t .flows) i j =
-            ap (λ (w : ℕ). amountAt (wordsEntries 0 lines) (w * sectorLimit + j)) (sym (zero-add i))
-            ∙ words-amount n few 0 lines lines-columns i j (omega arith)
-            ∙ rows-cell n n (t .flows) i j h l
+            let here : amountAt (wordsEntries 0 flow-rows) r ≡ at n (t .flows) i j =
+            ap (λ (w : ℕ). amountAt (wordsEntries 0 flow-rows) (w * sectorLimit + j)) (sym (zero-add i))
+            ∙ words-amount n few 0 flow-rows rows-long i j (omega arith)
+            ∙ rows-cell n (t .flows) i j h l
             in
             let away = words-away n few sectorLimit (t .columns) (f .sizes .columns) r (λ w k a b c e. omega arith) in
-            amount-append (wordsEntries 0 lines) (wordsEntries sectorLimit (t .columns)) r ∙ ap₂ _+_ here away ∙ add-zero (at n (t .flows) i j);
+            amount-append (wordsEntries 0 flow-rows) (wordsEntries sectorLimit (t .columns)) r ∙ ap₂ _+_ here away ∙ add-zero (at n (t .flows) i j);
         columns = λ c j h l.
             let r = columnWord c * sectorLimit + j in
             let here = words-amount n few sectorLimit (t .columns) (f .sizes .columns) c j (omega arith) in
-            let away = words-away n few 0 lines lines-columns r (λ w k a b g e. omega arith) in
-            amount-append (wordsEntries 0 lines) (wordsEntries sectorLimit (t .columns)) r ∙ ap₂ _+_ away here ∙ zero-add (cell (column t c) j);
+            let away = words-away n few 0 flow-rows rows-long r (λ w k a b g e. omega arith) in
+            amount-append (wordsEntries 0 flow-rows) (wordsEntries sectorLimit (t .columns)) r ∙ ap₂ _+_ away here ∙ zero-add (cell (column t c) j);
       }
 
 -- ---- what the reader returns of named cells
 -- column c of a reading, of those that it has
 column-named : (k n : ℕ) (es : List Entry) (c : ℕ) → c < k → column (tableNamed k n es) c ≡ take n (columnOf (columnWord c) es)
-column-named k n es c h = go k (λ i. i) c h
-  where
-    go : (k : ℕ) (g : ℕ → ℕ) (c : ℕ) → c < k → getD (map (λ (c : ℕ). take n (columnOf (columnWord c) es)) (tabulate k g)) c [] ≡ take n (columnOf (columnWord (g c)) es)
-    go zero g c h = absurd (not-suc-le-zero h)
-    go (suc k) g zero h = refl
-    go (suc k) g (suc c) h = go k (λ i. g (suc i)) c (le-of-suc-le-suc h)
+column-named k n es c h = slice-made k (λ c. take n (columnOf (columnWord c) es)) c h
 
 module _ (n : ℕ) (some : 1 ≤ n) (few : n ≤ sectorLimit) where
   square : n * n ≤ sheetLimit
@@ -139,17 +136,14 @@ module _ (n : ℕ) (some : 1 ≤ n) (few : n ≤ sectorLimit) where
         sym
         (getD-take (n * n) (flowsOf n es) (i * n + j) 0 (cell-in n i j h l)
         ∙ slice-cell n few (flowsOf n) (λ w. ltb w sectorLimit) (λ w p. w * n + p) sheetLimit refl (λ e es. refl) flows-inside flows-once es d a
-        (named i j) (record { known = omega (arith, few); row = λ _. h; place = l }) (lt-ltb i sectorLimit (omega (arith, few))));
+        (made i j 0) (record { known = omega (arith, few); row = λ _. h; place = l }) (lt-ltb i sectorLimit (omega (arith, few))));
     columns = λ c j h l.
         sym
         (ap (λ (s : List ℕ). cell s j) (column-named (length columnKinds) n es c h)
         ∙ getD-take n (columnOf (columnWord c) es) j 0 l
         ∙ slice-cell n few (columnOf (columnWord c)) (λ w. eqb w (columnWord c)) (λ w p. p) sectorLimit refl (λ e es. refl) (column-inside (columnWord c)) (column-once (columnWord c)) es d a
-        (named (columnWord c) j) (record { known = omega arith; row = λ g. absurd (omega arith); place = l }) (eq-eqb (columnWord c) (columnWord c) refl));
+        (made (columnWord c) j 0) (record { known = omega arith; row = λ g. absurd (omega arith); place = l }) (eq-eqb (columnWord c) (columnWord c) refl));
   }
-    where
-      named : ℕ → ℕ → Entry
-      named w p = record { word = w; position = p; amount = 0 }
 
 -- ---- cells alike, tables alike
 pub table-same : (n : ℕ) (x y : List ℕ) (cs ds : List (List ℕ)) (es : List Entry) → Fit (tableOf n x cs) → Fit (tableOf n y ds)

@@ -7,13 +7,14 @@ use native.Mathlib.Nat.{add-zero, add-assoc, sub-add-cancel, div-div-eq-div-mul}
 use native.Mathlib.Omega.{arith}
 use borrow.Author.Tests.{eqb-true}
 use lib.Arith.{digits-div, digits-mod}
-use lib.Dec.{eqb, leb, ltb}
+use lib.Dec.{eqb, leb}
 use lib.ListN.{length, drop, drop-of-length-le}
 use lib.Seq.{drop-cons}
 use Rattle.model.specs.Numbers.{tabulate, cell}
 use Rattle.model.specs.Table.{sectorLimit, fewSectors}
-use Rattle.model.specs.File.{Entry, recordLengths, columnKinds, amountBytes, amountFrom, encode, encodeAll, fileOf, kindAt, isFlow, nextAt, wholeAt, insideAt, entryAt, namedBefore, Reading, walk, reading}
+use Rattle.model.specs.File.{Entry, recordLengths, amountBytes, amountFrom, encode, encodeAll, fileOf, kindAt, isFlow, nextAt, wholeAt, insideAt, entryAt, namedBefore, Reading, walk, reading}
 use Rattle.theory.proofs.Lists.{tabulate-cong, and-true, from-one}
+use Rattle.theory_files.proofs.Encoding.{encode-flow, encode-column}
 use Rattle.theory_files.proofs.Readings.{unless, provided, either}
 use Rattle.theory_files.proofs.RecordKinds.{body, record-size, column-kind, taken, Taken}
 
@@ -56,14 +57,6 @@ bytes-from s (suc k) at h =
     moved i = omega arith
 
 -- ---- a record that the reader takes is the one that is written of its cell
-encode-flow : (e : Entry) → ltb (e .word) sectorLimit ≡ true → encode e ≡ 2 ∷ (e .word + 1) ∷ (e .position + 1) ∷ amountBytes (e .amount)
-unfolding encode
-encode-flow e h = rw h refl
-
-encode-column : (e : Entry) → ltb (e .word) sectorLimit ≡ false → encode e ≡ cell columnKinds (e .word - sectorLimit) ∷ (e .position + 1) ∷ amountBytes (e .amount)
-unfolding encode
-encode-column e h = rw h refl
-
 -- a record's length tells whether it is of x
 by-size : (a b : Bool) → _≡_ {A = ℕ} (cond a 7 6) (cond b 7 6) → a ≡ b
 by-size true true e = refl

@@ -1,6 +1,6 @@
 -- What a reader finds where `encode` wrote a named cell: one step of its walk. Assumes nothing.
 use mathlib.Core.Bool.{Bool, true, false, _&&_, cond, false≢true}
-use mathlib.Core.List.{List, [], _∷_, _++_}
+use mathlib.Core.List.{List, [], _∷_, _++_, append-assoc}
 use mathlib.Core.Path.{_≡_, refl, sym, ap, subst, _∙_}
 use Prim.Native.Nat.{ℕ, suc, _+_, _*_, _-_, _/_, _%_, _<_}
 use native.Mathlib.Nat.{div-add-mod', div-div-eq-div-mul, suc-add, add-sub-cancel}
@@ -11,7 +11,7 @@ use lib.Dec.{eqb, leb, ltb}
 use lib.ListN.{length}
 use Rattle.model.specs.Numbers.{first, cell}
 use Rattle.model.specs.Table.{sectorLimit}
-use Rattle.model.specs.File.{Entry, Within, recordLengths, columnWords, columnKinds, amountBytes, encode, amountFrom, kindAt, wholeAt, insideAt, entryAt, namedBefore, Reading, walk}
+use Rattle.model.specs.File.{Entry, Within, recordLengths, columnWords, columnKinds, amountBytes, encode, encodeAll, amountFrom, kindAt, wholeAt, insideAt, entryAt, namedBefore, Reading, walk}
 use Rattle.theory.proofs.Lists.{first-before, and-true}
 
 -- two neighbouring bytes of an amount make one number
@@ -58,10 +58,11 @@ stands-at : (n : ℕ) (before s : List ℕ) (e : Entry) (size : ℕ) → Stands 
 stands-at n [] s e size h = h
 stands-at n (b ∷ before) s e size h = stands-after n b (before ++ s) (length before) e size (stands-at n before s e size h)
 
-abbrev made : ℕ → ℕ → ℕ → Entry
+-- a named cell by its parts; equal parts, equal cells
+abbrev pub made : ℕ → ℕ → ℕ → Entry
 made l p a = record { word = l; position = p; amount = a }
 
-made-same : {l p a i j c : ℕ} → l ≡ i → p ≡ j → a ≡ c → made l p a ≡ made i j c
+pub made-same : {l p a i j c : ℕ} → l ≡ i → p ≡ j → a ≡ c → made l p a ≡ made i j c
 made-same {l} {p} {a} {i} {j} {c} e f g = ap (λ (x : ℕ). made x p a) e ∙ ap (λ (x : ℕ). made i x a) f ∙ ap (made i j) g
 
 both : {a b : Bool} → a ≡ true → b ≡ true → a && b ≡ true
@@ -109,6 +110,20 @@ column-stands n k j a rest hk hj =
       entry = rw (column-unlike 2 k refl hk) (made-same (column-word k hk) (add-sub-cancel j 1) (amount-back a));
       sized = column-size k hk;
     }
+
+-- the bytes of a record: of a cell of x, and of a column's
+pub encode-flow : (e : Entry) → ltb (e .word) sectorLimit ≡ true → encode e ≡ 2 ∷ (e .word + 1) ∷ (e .position + 1) ∷ amountBytes (e .amount)
+unfolding encode
+encode-flow e h = rw h refl
+
+pub encode-column : (e : Entry) → ltb (e .word) sectorLimit ≡ false → encode e ≡ cell columnKinds (e .word - sectorLimit) ∷ (e .position + 1) ∷ amountBytes (e .amount)
+unfolding encode
+encode-column e h = rw h refl
+
+-- and of records one after another
+pub encode-append : (es fs : List Entry) → encodeAll (es ++ fs) ≡ encodeAll es ++ encodeAll fs
+encode-append [] fs = refl
+encode-append (e ∷ es) fs = ap (λ (s : List ℕ). encode e ++ s) (encode-append es fs) ∙ sym (append-assoc (encode e) (encodeAll es) (encodeAll fs))
 
 -- The one lemma of a record: what `encode` wrote of a cell of the table, a reader finds
 pub stands : (n : ℕ) (e : Entry) → Within n e → (before rest : List ℕ) → Stands n (before ++ (encode e ++ rest)) (length before) e (length (encode e))

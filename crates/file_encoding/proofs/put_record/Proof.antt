@@ -5,12 +5,13 @@ use Prim.Native.Nat.{ℕ, _+_}
 use borrow.Author.Needs.{needs}
 use Rattle.model.specs.File.{amountBytes, encode}
 use Rattle.theory.proofs.Stores.{Begun, begin, go-on, done, room, room-first}
-use Rattle.file_encoding.proofs.WordLaws.{named, flow-record, column-record}
+use Rattle.theory_files.proofs.Encoding.{made}
+use Rattle.file_encoding.proofs.WordLaws.{flow-record, column-record}
 use Rattle.file_encoding.proofs.put_record.Statement.{statement}
 use Rattle.file_encoding.proofs.put_record.Tie as tie
 
 abbrev whole : tie.Start → List ℕ
-whole s = let a = s .args in encode (named (a .word) (a .position) (a .amount))
+whole s = let a = s .args in encode (made (a .word) (a .position) (a .amount))
 
 start : (s : tie.Start) → Begun (whole s) (s .args .at) (s .args .file .now) (s .args .file .now) (s .args .at) (whole s)
 start s = begin (whole s) (s .args .at) (s .args .file .now)

@@ -9,7 +9,8 @@ use lib.ListN.{length}
 use Rattle.model.specs.Numbers.{cell}
 use Rattle.model.specs.File.{encode}
 use Rattle.theory.proofs.Stores.{Begun, begin, go-on, ended, kept, room-first}
-use Rattle.file_encoding.proofs.WordLaws.{named, wordFrom, word-zero, word-more, word-done}
+use Rattle.theory_files.proofs.Encoding.{made}
+use Rattle.file_encoding.proofs.WordLaws.{wordFrom, word-zero, word-more, word-done}
 use Rattle.file_encoding.proofs.put_word.Statement.{statement}
 use Rattle.file_encoding.proofs.put_word.Tie as tie
 
@@ -34,7 +35,7 @@ parts :
     let p = c .before .before .before in
     let a = entry p .args in
     let i = p .loop .p in
-    wordFrom (a .word) (a .cells .now) i ≡ encode (named (a .word) i (cell (a .cells .now) i)) ++ wordFrom (a .word) (a .cells .now) (i + 1)
+    wordFrom (a .word) (a .cells .now) i ≡ encode (made (a .word) i (cell (a .cells .now) i)) ++ wordFrom (a .word) (a .cells .now) (i + 1)
 parts c =
     let p = c .before .before .before in
     let a = entry p .args in
@@ -47,7 +48,7 @@ put-record-requires c κs =
     let a = s .args in
     let i = p .loop .p in
     let lt = c .before .before .before .before .loop-test .taken in
-    ((s .pre .0 .0, omega arith, s .pre .1 .0 i), room-first (encode (named (a .word) i (cell (a .cells .now) i))) (wordFrom (a .word) (a .cells .now) (i + 1)) (parts (c .before .before)) (s .pre .1 .1) (p .loop .inv .2))
+    ((s .pre .0 .0, omega arith, s .pre .1 .0 i), room-first (encode (made (a .word) i (cell (a .cells .now) i))) (wordFrom (a .word) (a .cells .now) (i + 1)) (parts (c .before .before)) (s .pre .1 .1) (p .loop .inv .2))
 
 loop-again : tie.Need-loop-again Inv-loop μ-loop
 loop-again c =
@@ -59,7 +60,7 @@ loop-again c =
       omega arith,
       refl,
       ⊎-elim
-          (λ w. go-on (encode (named (a .word) i (cell (a .cells .now) i))) later (parts record { before = c .before; if1 = w .0 }) (p .loop .inv .2) (w .7 ∙ w .3 .ensures .0, w .6 ∙ w .3 .ensures .1))
+          (λ w. go-on (encode (made (a .word) i (cell (a .cells .now) i))) later (parts record { before = c .before; if1 = w .0 }) (p .loop .inv .2) (w .7 ∙ w .3 .ensures .0, w .6 ∙ w .3 .ensures .1))
           (λ w. go-on [] later (word-zero (a .word) (a .cells .now) i lt (w .0 .left)) (p .loop .inv .2) (w .2 ∙ sym (add-zero (p .loop .next)), w .1))
           (c .if1 .came),
     )

@@ -12,7 +12,7 @@ use Rattle.file_writer.proofs.put_rows.Statement.{statement}
 use Rattle.file_writer.proofs.put_rows.Tie as tie
 
 abbrev Inv-loop : tie.InvT-loop
-Inv-loop n x at file₀ next₀ i₀ file next i = (i ≤ n) × Words 0 (rows n n x) at file₀ i file next
+Inv-loop n x at file₀ next₀ i₀ file next i = (i ≤ n) × Words 0 (rows n x) at file₀ i file next
 
 abbrev μ-loop : tie.MeasureT-loop
 μ-loop n x at file₀ next₀ i₀ file next i = n - i
@@ -21,7 +21,7 @@ abbrev entry : tie.At-loop Inv-loop μ-loop → tie.Start Inv-loop μ-loop
 entry p = p .before .before .before
 
 loop-holds : tie.Need-loop-holds Inv-loop μ-loop
-loop-holds c = let a = c .before .before .args in (omega arith, words-none 0 (rows (a .n) (a .n) (a .x .now)) (a .at) (a .file .now))
+loop-holds c = let a = c .before .before .args in (omega arith, words-none 0 (rows (a .n) (a .x .now)) (a .at) (a .file .now))
 
 -- row i lies in x
 inside : (c : tie.In-loop Inv-loop μ-loop) → let n = entry (c .before) .args .n in let i = c .before .loop .i in i * n + n ≤ n * n
@@ -36,7 +36,7 @@ put-word-requires c κs =
     let x = s .args .x .now in
     let lt = q .loop-test .taken in (
       (omega arith, omega (arith, row-length n (l .i) x lt (s .pre .0 .1))),
-      (row-small n x (l .i) amountLimit (s .pre .1 .0), words-room (l .inv .1) (omega (arith, rows-count n n x)) (row-bytes n x (l .i) lt) (s .pre .1 .1)),
+      (row-small n x (l .i) amountLimit (s .pre .1 .0), words-room (l .inv .1) (omega (arith, rows-count n x)) (row-bytes n x (l .i) lt) (s .pre .1 .1)),
     )
 
 loop-again : tie.Need-loop-again Inv-loop μ-loop
@@ -45,7 +45,7 @@ loop-again c =
     let l = q .before .loop in
     let a = entry (q .before) .args in
     let lt = q .loop-test .taken in
-    (omega arith, words-more (l .inv .1) (omega (arith, rows-count (a .n) (a .n) (a .x .now))) (row-bytes (a .n) (a .x .now) (l .i) lt) (c .before .before .put-word .ensures))
+    (omega arith, words-more (l .inv .1) (omega (arith, rows-count (a .n) (a .x .now))) (row-bytes (a .n) (a .x .now) (l .i) lt) (c .before .before .put-word .ensures))
 
 same-length : tie.Need-same-length Inv-loop μ-loop
 same-length c = kept (c .before .loop .inv .1 .begun)
@@ -53,7 +53,7 @@ same-length c = kept (c .before .loop .inv .1 .begun)
 returns : tie.Need-returns Inv-loop μ-loop
 returns c =
     let a = entry (c .before) .args in
-    words-done (c .before .loop .inv .1) (omega (arith, rows-count (a .n) (a .n) (a .x .now)))
+    words-done (c .before .loop .inv .1) (omega (arith, rows-count (a .n) (a .x .now)))
 
 pub put-rows-spec : {M : Type 1} → statement M
 put-rows-spec =

@@ -20,7 +20,7 @@ table s =
 
 -- its parts after kind 1
 abbrev flows : tie.Start → List ℕ
-flows s = let a = s .args in wordsEncoded 0 (rows (a .n) (a .n) (a .x .now))
+flows s = let a = s .args in wordsEncoded 0 (rows (a .n) (a .x .now))
 
 abbrev columns : tie.Start → List ℕ
 columns s = wordsEncoded sectorLimit (table s .columns)
