@@ -1,2 +1,1 @@
-pub mod MarkLaws
 pub mod RecordLaws

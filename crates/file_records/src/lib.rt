@@ -1,13 +1,12 @@
-// The records of a table file: what stands at an offset of a lent file, and the marks of the cells that it names.
-ghost use mathlib.Core.Bool.{_&&_, _||_};
+// The records of a table file: what stands at an offset of a lent file.
+ghost use mathlib.Core.Bool.{_&&_};
 ghost use mathlib.Core.Path.{_≡_};
-ghost use Prim.Native.Nat.{ℕ, _+_, _^_, _<_, _≤_};
-ghost use lib.Dec.{eqb, leb};
+ghost use Prim.Native.Nat.{_+_, _^_, _<_, _≤_};
+ghost use lib.Dec.{leb};
 ghost use lib.ListN.{length};
 ghost use Rattle.model.specs.Numbers.{cell};
 ghost use Rattle.model.specs.File.{recordLengths, columnWords, wholeAt, insideAt, amountFrom, entryAt};
 ghost use Rattle.file_records.specs.Bodies.{Body, Sectors};
-ghost use Rattle.file_records.specs.Marks.{marked};
 
 // Bytes of a record by its kind, the kind byte counted; 0 where there is no such kind. One word with a digit of base 16 for each kind, from
 // the right: an array would be made anew at each record.
@@ -125,21 +124,4 @@ pub fn amount_at(s: &[u8], at: usize) -> u64
     ensures { λ r. ⌜ (r ≡ entryAt (now (s .entry)) at .amount) × (r < 2 ^ 32) ⌝ }
 {
     amount_from(s, at + record_length(s[at]) - 4)
-}
-
-// Was the cell named before?
-pub fn is_marked(marks: &[u64], word: usize, position: usize) -> bool
-    requires { ⌜ (word < length (now marks)) × (position < 64) ⌝ }
-    ensures { λ r. ⌜ r ≡ marked (now (marks .entry)) word position ⌝ }
-{
-    (marks[word] >> position) % 2 == 1
-}
-
-// Marks a cell, and no other.
-pub fn mark(marks: &mut [u64], word: usize, position: usize)
-    requires { ⌜ (word < length (now marks)) × (position < 64) ⌝ }
-    ensures { λ _. ⌜ ((i k : ℕ) → marked (now (marks .exit)) i k ≡ (eqb word i && eqb position k || marked (now (marks .entry)) i k)) ⌝ }
-{
-    let before = marks[word];
-    marks[word] = before | (1u64 << position);
 }

@@ -3,14 +3,13 @@ use mathlib.Core.Bool.{Bool, _&&_, _||_}
 use mathlib.Core.List.{List, [], _∷_}
 use mathlib.Core.Path.{_≡_, refl, sym, ap, _∙_, subst}
 use Prim.Native.Nat.{ℕ, suc, pred, _+_, _≤_}
-use native.Mathlib.Numerals.{add-one}
 use native.Mathlib.Omega.{arith}
-use lib.Dec.{eqb, lit≤}
+use lib.Dec.{eqb}
 use lib.ListN.{length, replicate, length-replicate}
-use Rattle.model.specs.File.{Entry, Reading, walk, answerOf, cellLimit, wordLimit}
+use Rattle.model.specs.File.{Entry, marked, markTotal, Reading, walk, reading, answerOf, cellLimit, wordLimit}
 use Rattle.model.specs.declared.TableRead.the-variants.{Read, Refused}
-use Rattle.file_records.specs.Marks.{marked}
-use Rattle.file_records.proofs.MarkLaws.{marked-none}
+use Rattle.theory_files.proofs.Marks.{named-total}
+use Rattle.marks.proofs.MarkLaws.{marked-none}
 use Rattle.file_walk.specs.declared.Step.the-variants.{Stop, End, Cell}
 use Rattle.file_walk.specs.Steps.{Held, Agrees, Kept, Names, Asked, Accepts}
 use Rattle.file_walk.proofs.WalkLaws.{one-more}
@@ -53,29 +52,18 @@ keeps-none n cells marks x y = record {
   };
 }
 
-pub record Walking (s : List ℕ) (n : ℕ) (cells marks : List ℕ) (at count : ℕ) : Type 0 where
+pub record Walking (s : List ℕ) (n : ℕ) (cells marks : List ℕ) (at : ℕ) : Type 0 where
   pub es : List Entry
   pub fuel : ℕ
   pub same : walk (length s) s n [] 2 ≡ walk fuel s n es at
   pub enough : length s ≤ at + fuel
   pub inside : at ≤ length s
   pub kept : Kept n es cells marks
-  pub counted : count ≡ length es
-  pub few : count + 2 ≤ at
 
-pub starts : (s : List ℕ) (n : ℕ) (cells marks : List ℕ) → 2 ≤ length s → Kept n [] cells marks → Walking s n cells marks 2 0
-starts s n cells marks h k = record {
-  es = [];
-  fuel = length s;
-  same = refl;
-  enough = omega arith;
-  inside = h;
-  kept = k;
-  counted = refl;
-  few = lit≤ tt;
-}
+pub starts : (s : List ℕ) (n : ℕ) (cells marks : List ℕ) → 2 ≤ length s → Kept n [] cells marks → Walking s n cells marks 2
+starts s n cells marks h k = record { es = []; fuel = length s; same = refl; enough = omega arith; inside = h; kept = k }
 
-module _ (s : List ℕ) (n : ℕ) (cells marks : List ℕ) (at count : ℕ) (w : Walking s n cells marks at count) where
+module _ (s : List ℕ) (n : ℕ) (cells marks : List ℕ) (at : ℕ) (w : Walking s n cells marks at) where
   -- the walk stands before the step that the code took
   abbrev next-fuel : ℕ
   next-fuel = pred (w .fuel)
@@ -86,21 +74,15 @@ module _ (s : List ℕ) (n : ℕ) (cells marks : List ℕ) (at count : ℕ) (w :
   pub stopped : (q p : ℕ) → Asked s n at marks (Stop q p) → walk (length s) s n [] 2 ≡ Reading.refused q p
   stopped q p t = before ∙ t next-fuel (w .es) (w .kept .agrees)
 
-  pub finished : Asked s n at marks End → Accepts (walk (length s) s n [] 2) n count cells
-  finished t = record {
-    es = w .es;
-    same = before ∙ t next-fuel (w .es) (w .kept .agrees);
-    counted = w .counted;
-    held = w .kept .held;
-  }
+  pub finished : Asked s n at marks End → Accepts (walk (length s) s n [] 2) n cells marks
+  finished t = record { es = w .es; same = before ∙ t next-fuel (w .es) (w .kept .agrees); kept = w .kept }
 
   pub goes-on :
       (e : Entry) (next : ℕ) (cells' marks' : List ℕ) → Asked s n at marks (Cell (e .word) (e .position) (e .amount) next)
-      → ((es : List Entry) → Kept n es cells marks → Kept n (e ∷ es) cells' marks') → Walking s n cells' marks' next (count + 1)
+      → ((es : List Entry) → Kept n es cells marks → Kept n (e ∷ es) cells' marks') → Walking s n cells' marks' next
   goes-on e next cells' marks' t k =
       let o = t .1 .onward in
       let z = w .enough in
-      let f = w .few in
       record {
         es = e ∷ w .es;
         fuel = next-fuel;
@@ -108,14 +90,14 @@ module _ (s : List ℕ) (n : ℕ) (cells marks : List ℕ) (at count : ℕ) (w :
         enough = (let d : length s ≤ next + pred (w .fuel) = omega arith in d);
         inside = t .1 .inside;
         kept = k (w .es) (w .kept);
-        counted = add-one count ∙ ap suc (w .counted);
-        few = omega arith;
       }
 
 -- the answer, and the cells after it
 pub cleared-refused : (o : Reading) (q p : ℕ) (cells : List ℕ) → o ≡ Reading.refused q p → cells ≡ replicate cellLimit 0 → (Refused q p ≡ answerOf o) × Held o cells
 cleared-refused o q p cells e z = (ap answerOf (sym e), subst (λ (r : Reading). Held r cells) (sym e) (held-refused cells z q p))
 
-pub cleared-read : (o : Reading) (n k : ℕ) (cells : List ℕ) → Accepts o n k cells → (Read n k ≡ answerOf o) × Held o cells
-cleared-read o n k cells a =
-    (ap (Read n) (a .counted) ∙ ap answerOf (sym (a .same)), subst (λ (r : Reading). Held r cells) (sym (a .same)) (a .held))
+-- the named cells are as many as the marks tell
+pub counted : (s : List ℕ) (n k : ℕ) (cells marks : List ℕ) → Accepts (reading s) n cells marks → k ≡ markTotal marks → (Read n k ≡ answerOf (reading s)) × Held (reading s) cells
+counted s n k cells marks a e =
+    let total = named-total s n (a .es) (a .same) marks (a .kept .agrees .same) in
+    (ap (Read n) (e ∙ total) ∙ ap answerOf (sym (a .same)), subst (λ (r : Reading). Held r cells) (sym (a .same)) (a .kept .held))

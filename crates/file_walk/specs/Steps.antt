@@ -6,12 +6,11 @@ use mathlib.Core.Path.{_≡_}
 use Prim.Native.Nat.{ℕ, suc, _*_, _≤_, _<_}
 use lib.ListN.{length, take, drop}
 use Rattle.model.specs.Table.{sectorLimit, sheetLimit}
-use Rattle.model.specs.File.{Entry, Within, kindAt, wholeAt, namedBefore, Reading, walk, reading, flowsRead, columnRead, cellLimit, wordLimit}
-use Rattle.model.specs.declared.TableRead.{TableRead}
-use Rattle.model.specs.declared.TableRead.the-variants.{Read, Refused}
-use Rattle.file_records.specs.Marks.{marked}
+use Rattle.model.specs.File.{Entry, Within, kindAt, wholeAt, namedBefore, marked, Reading, walk, reading, flowsRead, columnRead, cellLimit, wordLimit}
 use Rattle.file_walk.specs.declared.Step.{Step}
 use Rattle.file_walk.specs.declared.Step.the-variants.{Stop, End, Cell}
+use Rattle.file_walk.specs.declared.Walked.{Walked}
+use Rattle.file_walk.specs.declared.Walked.the-variants.{Refused, Table}
 
 -- the list holds the cells of a reading
 pub record Held (o : Reading) (cells : List ℕ) : Type 0 where
@@ -53,19 +52,18 @@ Asked s n at marks (Cell word position amount next) =
     let e : Entry = record { word = word; position = position; amount = amount } in
     ((fuel : ℕ) (es : List Entry) → Agrees es marks → walk (suc fuel) s n es at ≡ walk fuel s n (e ∷ es) next) × Names s n at e next
 
--- the reading is a table of n sectors with k named cells, and the list holds them
-pub record Accepts (o : Reading) (n k : ℕ) (cells : List ℕ) : Type 0 where
+-- the reading is a table of n sectors, the list holds its cells, and the marks are theirs
+pub record Accepts (o : Reading) (n : ℕ) (cells marks : List ℕ) : Type 0 where
   pub es : List Entry
   pub same : o ≡ Reading.table n es
-  pub counted : k ≡ length es
-  pub held : Held (Reading.table n es) cells
+  pub kept : Kept n es cells marks
 
--- what the walk answers at its end, and on acceptance the cells
-abbrev pub Ends : Reading → TableRead → List ℕ → Type 0
-Ends o (Refused q p) cells = o ≡ Reading.refused q p
-Ends o (Read n k) cells = Accepts o n k cells
+-- what the walk comes to at its end, and on acceptance the cells and the marks
+abbrev pub Ends : Reading → Walked → (cells marks : List ℕ) → Type 0
+Ends o (Refused q p) cells marks = o ≡ Reading.refused q p
+Ends o (Table n) cells marks = Accepts o n cells marks
 
--- what the first record is answered: a refusal, or n, from which the walk goes on at offset 2
-abbrev pub Opened : List ℕ → TableRead → Type 0
+-- what the first record comes to: a refusal, or n, from which the walk goes on at offset 2
+abbrev pub Opened : List ℕ → Walked → Type 0
 Opened s (Refused q p) = reading s ≡ Reading.refused q p
-Opened s (Read n k) = (reading s ≡ walk (length s) s n [] 2) × (n ≤ sectorLimit) × (2 ≤ length s)
+Opened s (Table n) = (reading s ≡ walk (length s) s n [] 2) × (n ≤ sectorLimit) × (2 ≤ length s)

@@ -3,13 +3,14 @@ use cells::fill_zero;
 use checks::is_sized;
 use file_records::amount_at;
 use file_records::is_inside;
-use file_records::is_marked;
 use file_records::is_whole;
-use file_records::mark;
 use file_records::position_at;
 use file_records::record_length;
 use file_records::wide;
 use file_records::word_at;
+use marks::count_marks;
+use marks::is_marked;
+use marks::mark;
 use model::SECTORS;
 use model::TableRead;
 ghost use mathlib.Core.List.{List, [], _∷_};
@@ -17,7 +18,7 @@ ghost use mathlib.Core.Path.{_≡_};
 ghost use Prim.Native.Nat.{ℕ, _≤_};
 ghost use lib.ListN.{length, replicate};
 ghost use Rattle.model.specs.Table.{sectorLimit};
-ghost use Rattle.model.specs.File.{Entry, Within, kindAt, Reading, walk as walkFrom, reading, answerOf, cellLimit, wordLimit};
+ghost use Rattle.model.specs.File.{Entry, Within, kindAt, Reading, walk as walkFrom, reading, answerOf, markTotal, cellLimit, wordLimit};
 ghost use Rattle.file_walk.specs.Steps.{Held, Kept, Begun, Naming, Asked, Ends, Opened};
 
 // What the walk does at a record: it stops with a refusal, it ends, or it takes a named cell and goes on.
@@ -33,6 +34,12 @@ pub enum Step {
         amount: u64,
         next: usize,
     },
+}
+
+// What a walk comes to: a refusal, or a table of n sectors.
+pub enum Walked {
+    Refused { number: u8, place: usize },
+    Table { sectors: usize },
 }
 
 // Question 15 of a record of kind 8: is it the file's last byte?
@@ -127,17 +134,16 @@ fn keep(n: usize, word: usize, position: usize, amount: u64, cells: &mut [u64], 
 }
 
 // The records after the first.
-fn walk(file: &[u8], n: usize, cells: &mut [u64], marks: &mut [u64]) -> TableRead
+fn walk(file: &[u8], n: usize, cells: &mut [u64], marks: &mut [u64]) -> Walked
     requires { ⌜ (n ≤ sectorLimit) × (2 ≤ length (now file)) × Kept n [] (now cells) (now marks) ⌝ }
-    ensures { λ r. ⌜ Ends (walkFrom (length (now (file .entry))) (now (file .entry)) n [] 2) r (now (cells .exit)) ⌝ }
+    ensures { λ r. ⌜ Ends (walkFrom (length (now (file .entry))) (now (file .entry)) n [] 2) r (now (cells .exit)) (now (marks .exit)) ⌝ }
 {
     let mut at: usize = 2;
-    let mut named: usize = 0;
     loop {
         let step = ask(file, at, n, marks);
         match step {
-            Step::Stop { number, place } => return TableRead::Refused { number, place },
-            Step::End => return TableRead::Read { sectors: n, named },
+            Step::Stop { number, place } => return Walked::Refused { number, place },
+            Step::End => return Walked::Table { sectors: n },
             Step::Cell {
                 word,
                 position,
@@ -145,71 +151,77 @@ fn walk(file: &[u8], n: usize, cells: &mut [u64], marks: &mut [u64]) -> TableRea
                 next,
             } => {
                 keep(n, word, position, amount, cells, marks);
-                named += 1;
                 at = next;
             }
         }
     }
 }
 
-// The first record: n, with no cell named yet, or a refusal.
-fn open(file: &[u8]) -> TableRead
+// The first record: n, or a refusal.
+fn open(file: &[u8]) -> Walked
     ensures { λ r. ⌜ Opened (now (file .entry)) r ⌝ }
 {
     if file.len() == 0 {
-        return TableRead::Refused {
+        return Walked::Refused {
             number: 15,
             place: 0,
         };
     }
     if !is_whole(file, 0) {
-        return TableRead::Refused {
+        return Walked::Refused {
             number: 11,
             place: 0,
         };
     }
     if file[0] != 1 {
-        return TableRead::Refused {
+        return Walked::Refused {
             number: 12,
             place: 0,
         };
     }
     let n = wide(file[1]);
     if !is_sized(n) {
-        return TableRead::Refused {
+        return Walked::Refused {
             number: 12,
             place: 0,
         };
     }
-    TableRead::Read {
-        sectors: n,
-        named: 0,
-    }
+    Walked::Table { sectors: n }
 }
 
 // The whole file, into cells and marks of 0.
-fn walk_file(file: &[u8], cells: &mut [u64], marks: &mut [u64]) -> TableRead
+fn walk_file(file: &[u8], cells: &mut [u64], marks: &mut [u64]) -> Walked
     requires { ⌜ (now cells ≡ replicate cellLimit 0) × (now marks ≡ replicate wordLimit 0) ⌝ }
-    ensures { λ r. ⌜ Ends (reading (now (file .entry))) r (now (cells .exit)) ⌝ }
+    ensures { λ r. ⌜ Ends (reading (now (file .entry))) r (now (cells .exit)) (now (marks .exit)) ⌝ }
 {
     let opening = open(file);
     match opening {
-        TableRead::Refused { number, place } => TableRead::Refused { number, place },
-        TableRead::Read { sectors, named: _ } => walk(file, sectors, cells, marks),
+        Walked::Refused { number, place } => Walked::Refused { number, place },
+        Walked::Table { sectors } => walk(file, sectors, cells, marks),
     }
 }
 
-// After a refusal the cells are 0.
-fn clear_refused(answer: TableRead, cells: &mut [u64]) -> TableRead
-    requires { ⌜ length (now cells) ≡ cellLimit ⌝ }
-    ensures { λ r. ⌜ ((o : Reading) → Ends o «answer» (now (cells .entry)) → (r ≡ answerOf o) × Held o (now (cells .exit))) ⌝ }
+// How many cells are marked; the marks are 0 after it.
+fn take_total(marks: &mut [u64]) -> usize
+    requires { ⌜ length (now marks) ≡ wordLimit ⌝ }
+    ensures { λ r. ⌜ (r ≡ markTotal (now (marks .entry))) × (now (marks .exit) ≡ replicate (length (now (marks .entry))) 0) ⌝ }
 {
-    match answer {
-        TableRead::Refused { number, place } => {
+    let total = count_marks(marks);
+    fill_zero(marks);
+    total
+}
+
+// The answer to a walk whose marks have this total; after a refusal the cells are 0.
+fn answer(walked: Walked, named: usize, cells: &mut [u64]) -> TableRead
+    requires { ⌜ length (now cells) ≡ cellLimit ⌝ }
+    ensures { λ r. ⌜ ((s marks : List ℕ) → Ends (reading s) «walked» (now (cells .entry)) marks → «named» ≡ markTotal marks → (r ≡ answerOf (reading s)) × Held (reading s) (now (cells .exit))) ⌝ }
+{
+    match walked {
+        Walked::Refused { number, place } => {
             fill_zero(cells);
             TableRead::Refused { number, place }
         }
-        TableRead::Read { sectors, named } => TableRead::Read { sectors, named },
+        Walked::Table { sectors } => TableRead::Read { sectors, named },
     }
 }
 
@@ -219,7 +231,7 @@ pub fn read_flat(file: &[u8], cells: &mut [u64], marks: &mut [u64]) -> TableRead
     ensures { λ r. ⌜ (r ≡ answerOf (reading (now (file .entry)))) × Held (reading (now (file .entry))) (now (cells .exit)) × (now (marks .exit) ≡ replicate wordLimit 0) ⌝ }
 {
     fill_zero(marks);
-    let answer = walk_file(file, cells, marks);
-    fill_zero(marks);
-    clear_refused(answer, cells)
+    let walked = walk_file(file, cells, marks);
+    let named = take_total(marks);
+    answer(walked, named, cells)
 }

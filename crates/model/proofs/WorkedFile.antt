@@ -1,13 +1,14 @@
 -- Document 01, "The table file": the worked table's file of 91 bytes, and files that are refused, computed by the checker. Assumes nothing.
 use mathlib.Core.Bool.{Bool, true, _&&_}
 use mathlib.Core.Path.{_≡_, refl}
-use mathlib.Core.List.{List, [], _∷_, map, reverse}
+use mathlib.Core.List.{List, [], _∷_, _++_, map, reverse}
 use Prim.Native.Nat.{ℕ}
 use lib.Dec.{ltb}
-use lib.ListN.{length, take}
+use lib.ListN.{length, take, replicate}
+use Rattle.model.specs.Numbers.{setPositions}
 use Rattle.model.specs.Table.{Table, tableOf}
 use Rattle.model.specs.Checks.{accepts, refuses}
-use Rattle.model.specs.File.{Entry, columnKinds, encode, fileOf, wholeAt, insideAt, entryAt, Reading, walk, reading, flowsOf, columnOf, fileLimit}
+use Rattle.model.specs.File.{Entry, columnKinds, encode, fileOf, wholeAt, insideAt, entryAt, Reading, walk, reading, flowsOf, columnOf, fileLimit, markTotal}
 use Rattle.model.specs.Writer.{tableEntries, written, writerReport, returned}
 
 abbrev pub naming : ℕ → ℕ → ℕ → Entry
@@ -32,6 +33,18 @@ pub worked-file :
     × _≡_ {A = List ℕ} (take 3 (columnOf 44 (reverse entries))) (1000 ∷ 2000 ∷ 0 ∷ [])
 unfolding encode fileOf wholeAt insideAt entryAt walk reading
 worked-file = (refl, refl, refl, refl)
+
+-- ---- the marks
+-- those of the worked table: both cells of rows 0 and 1 and of five columns
+abbrev workedMarks : List ℕ
+workedMarks = 3 ∷ 3 ∷ (replicate 38 0 ++ (3 ∷ 3 ∷ 3 ∷ 3 ∷ 3 ∷ 0 ∷ []))
+
+-- Theorem, for the reader: the set positions of words with none, only the lowest, only the highest, and all; the worked table's marks name its 14 cells
+pub worked-marks :
+    (setPositions 0 ≡ 0) × (setPositions 1 ≡ 1) × (setPositions 9223372036854775808 ≡ 1) × (setPositions 18446744073709551615 ≡ 64)
+    × (markTotal workedMarks ≡ length entries)
+unfolding setPositions markTotal
+worked-marks = (refl, refl, refl, refl, refl)
 
 -- ---- the writer
 -- the worked table with these rises

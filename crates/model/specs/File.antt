@@ -4,7 +4,7 @@ use mathlib.Core.List.{List, [], _∷_, _++_}
 use Prim.Native.Nat.{ℕ, zero, suc, _+_, _*_, _-_, _/_, _%_, _<_}
 use lib.Dec.{eqb, leb, ltb}
 use lib.ListN.{length, set, take, replicate}
-use Rattle.model.specs.Numbers.{Cells, all, tabulateCells, cell}
+use Rattle.model.specs.Numbers.{Cells, sum, all, tabulateCells, cell, bit, setPositions}
 use Rattle.model.specs.Table.{Table, tableOf, sectorLimit, sheetLimit, fewSectors}
 use Rattle.model.specs.Bytes.{Bytes}
 use Rattle.model.specs.declared.TableRead.{TableRead}
@@ -109,6 +109,15 @@ module _ (s : Bytes) (at : ℕ) where
 abbrev pub namedBefore : List Entry → Entry → Bool
 namedBefore [] e = false
 namedBefore (f ∷ es) e = eqb (f .word) (e .word) && eqb (f .position) (e .position) || namedBefore es e
+
+-- ---- the marks of named cells: 46 words
+-- "A row's named cells are marked as bits of one 64-bit word": the bit of a cell is set
+unfoldable pub marked : (marks : Cells) (word position : ℕ) → Bool
+marked marks word position = eqb (bit (cell marks word) position) 1
+
+-- document 01, "The shape of each place": "The reader's named-cell total sums the ones of 46 mark words"
+unfoldable pub markTotal : Cells → ℕ
+markTotal marks = sum wordLimit (λ w. setPositions (cell marks w))
 
 -- ---- the reader's walk
 -- what a file comes to: a refusal, or n and the named cells, the last one first

@@ -82,3 +82,7 @@ oriented false c = c
 -- the bit of a word at a position: 0 or 1
 abbrev pub bit : ℕ → ℕ → ℕ
 bit word position = word / 2 ^ position % 2
+
+-- how many of a word's 64 positions are set: document 02, ticket 2, "the number of its set positions"
+unfoldable pub setPositions : ℕ → ℕ
+setPositions word = sum 64 (bit word)

@@ -1,5 +1,5 @@
 -- Sums and largest terms. Assumes nothing.
-use mathlib.Core.Path.{_≡_, refl, sym, _∙_, ap, ap₂, subst⁻¹}
+use mathlib.Core.Path.{_≡_, refl, sym, _∙_, ap, ap₂, subst, subst⁻¹}
 use mathlib.Core.Logic.{_⊎_, inl, inr}
 use mathlib.Core.Bool.{true, false}
 use Prim.Native.Nat.{ℕ, zero, suc, _+_, _*_, _-_, _≤_, _<_, zero-le}
@@ -51,6 +51,22 @@ sum-cell (suc n) f =
 -- a part of a sum
 pub sum-part : (m n : ℕ) (f : ℕ → ℕ) → m ≤ n → sum m f ≤ sum n f
 sum-part m n f = le-ind (λ (k : ℕ). sum m f ≤ sum k f) (le-refl (sum m f)) (λ k h l. le-trans l (le-add-right (sum k f) (f k))) n
+
+-- a sum with one larger term
+pub sum-raised : (n : ℕ) {f g : ℕ → ℕ} (i d : ℕ) → i < n → ((k : ℕ) → k < n → (i ≡ k → ⊥) → g k ≡ f k) → g i ≡ f i + d → sum n g ≡ sum n f + d
+sum-raised zero i d h others here = absurd (not-suc-le-zero h)
+sum-raised (suc n) {f} {g} i d h others here =
+    pick (eq-or-lt-of-le (le-of-suc-le-suc h)) (λ l. sum-raised n {f = f} {g = g} i d l (λ k m. others k (le-step m)) here)
+  where
+    pick : (i ≡ n) ⊎ (i < n) → (i < n → sum n g ≡ sum n f + d) → sum n g + g n ≡ sum n f + f n + d
+    pick (inl e) _ =
+        let before = sum-cong n {f = g} {g = f} (λ k l. others k (le-step l) (λ q. omega arith)) in
+        let last : g n ≡ f n + d = subst (λ (k : ℕ). g k ≡ f k + d) e here in
+        omega arith
+    pick (inr l) raised =
+        let before = raised l in
+        let last = others n (lt-suc-self n) (λ q. omega arith) in
+        omega arith
 
 -- a sum of sums may be taken in either order
 pub sum-swap : (m n : ℕ) (f : ℕ → ℕ → ℕ) → sum m (λ i. sum n (f i)) ≡ sum n (λ j. sum m (λ i. f i j))

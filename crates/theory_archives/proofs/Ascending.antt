@@ -12,7 +12,7 @@ use Rattle.model.specs.File.{Entry, Within, namedBefore}
 use Rattle.model.specs.Writer.{order, Ascending}
 use Rattle.theory_files.proofs.Encoding.{made-same}
 use Rattle.theory_files.proofs.Files.{Fresh}
-use Rattle.theory_files.proofs.Readings.{AllWithin}
+use Rattle.theory_files.proofs.Readings.{AllWithin, Distinct}
 
 -- The amount that named cells have at a place of the order: of all that are there together, and so of the one
 abbrev pub amountAt : List Entry → ℕ → ℕ
@@ -145,10 +145,6 @@ module _ (n : ℕ) (few : n ≤ sectorLimit) where
   )
 
 -- ---- cells that are named once each
-abbrev pub Distinct : List Entry → Type 0
-Distinct [] = Unit {0}
-Distinct (e ∷ es) = (namedBefore es e ≡ false) × Distinct es
-
 pub distinct-reversed : (n : ℕ) (es fs : List Entry) → Fresh n fs es → Distinct fs × AllWithin n fs → Distinct (reverseAux es fs) × AllWithin n (reverseAux es fs)
 distinct-reversed n [] fs f d = d
 distinct-reversed n (e ∷ es) fs f d = distinct-reversed n es (e ∷ fs) (f .2) ((f .1, d .0), (f .0, d .1))

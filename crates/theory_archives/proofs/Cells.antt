@@ -16,8 +16,8 @@ use Rattle.model.specs.Writer.{wordEntries, wordsEntries, rows, order, Ascendin
 use Rattle.theory.specs.Slices.{Columns}
 use Rattle.theory.proofs.Lists.{count-slices, slice-made, cell-zeros}
 use Rattle.theory_files.proofs.Encoding.{made}
-use Rattle.theory_files.proofs.Readings.{AllWithin}
-use Rattle.theory_archives.proofs.Ascending.{amountAt, amount-append, amount-here, amount-other, order-once, from-lower, Distinct, unnamed}
+use Rattle.theory_files.proofs.Readings.{AllWithin, Distinct}
+use Rattle.theory_archives.proofs.Ascending.{amountAt, amount-append, amount-here, amount-other, order-once, from-lower, unnamed}
 
 -- ---- the named cells of words
 -- a word that a table of n sectors has

@@ -19,8 +19,8 @@ use Rattle.theory.proofs.Matrices.{place-once, place-row, place-column, place-c
 use Rattle.theory.proofs.Sums.{cell-in}
 use Rattle.theory_tables.specs.Tables.{TableSizes}
 use Rattle.theory_files.proofs.Encoding.{made}
-use Rattle.theory_files.proofs.Readings.{AllWithin}
-use Rattle.theory_archives.proofs.Ascending.{amountAt, amount-append, amount-reversed, from-lower, Same, Distinct}
+use Rattle.theory_files.proofs.Readings.{AllWithin, Distinct}
+use Rattle.theory_archives.proofs.Ascending.{amountAt, amount-append, amount-reversed, from-lower, Same}
 use Rattle.theory_archives.proofs.Cells.{Known, words-ascending, words-away, words-amount, rows-count, rows-columns, rows-cell, slice-length, slice-cell}
 
 -- a table of this many columns, whose slices have their lengths

@@ -11,88 +11,21 @@ use lib.ListN.{length}
 use Rattle.model.specs.Numbers.{sum, cell}
 use Rattle.model.specs.Table.{sectorLimit, fewSectors}
 use Rattle.model.specs.File.{Entry, kindAt, nextAt, wholeAt, insideAt, entryAt, namedBefore, Reading, walk, reading, fileLimit, wordLimit}
-use Rattle.theory.proofs.Sums.{sum-mono}
+use Rattle.theory.proofs.Sums.{sum-mono, sum-const}
 use Rattle.theory.proofs.Lists.{and-true, from-one}
 use Rattle.theory_files.proofs.RecordKinds.{wordBytes, Taken, taken}
-
--- a sum with one larger cell
-sum-lift : (n : ℕ) {f g : ℕ → ℕ} (i d : ℕ) → i < n → ((k : ℕ) → k < n → f k ≤ g k) → f i + d ≤ g i → sum n f + d ≤ sum n g
-sum-lift zero i d h le at-i = absurd (not-suc-le-zero h)
-sum-lift (suc n) {f} {g} i d h le at-i = go (ltb i n) refl (λ l. sum-lift n {f = f} {g = g} i d l (λ k lt. le k (omega arith)) at-i)
-  where
-    go : (b : Bool) → ltb i n ≡ b → (i < n → sum n f + d ≤ sum n g) → sum n f + f n + d ≤ sum n g + g n
-    go true e before =
-        let lower = before (ltb-true i n e) in
-        let here = le n (omega arith) in
-        omega arith
-    go false e before =
-        let low = ltb-false i n e in
-        let same : i ≡ n = omega arith in
-        let lower = sum-mono n {f = f} {g = g} (λ k lt. le k (omega arith)) in
-        let here : f n + d ≤ g n = subst (λ (k : ℕ). f k + d ≤ g k) same at-i in
-        omega arith
+use Rattle.theory_files.proofs.Counts.{indicator-most, place, count, tally, tally-more}
 
 -- ---- the bytes that the named cells take
-abbrev indicator : Bool → ℕ
-indicator true = 1
-indicator false = 0
+abbrev pub weight : List Entry → ℕ
+weight = tally sectorLimit wordBytes
 
-abbrev place : ℕ → ℕ → Entry
-place l p = record { word = l; position = p; amount = 0 }
-
-abbrev is : Entry → ℕ → ℕ → Bool
-is e l p = eqb (e .word) l && eqb (e .position) p
-
-abbrev count : List Entry → ℕ → ℕ
-count es l = sum sectorLimit (λ p. indicator (namedBefore es (place l p)))
-
-pub weight : List Entry → ℕ
-weight es = sum wordLimit (λ l. wordBytes l * count es l)
-
-indicator-most : (b : Bool) → indicator b ≤ 1
-indicator-most true = le-refl 1
-indicator-most false = omega arith
-
-count-most : (es : List Entry) (l : ℕ) → count es l ≤ sum sectorLimit (λ _. 1)
-count-most es l = sum-mono sectorLimit (λ p _. indicator-most (namedBefore es (place l p)))
-
-pub weight-most : (es : List Entry) → weight es ≤ sum wordLimit (λ l. wordBytes l * sectorLimit)
-unfolding weight
-weight-most es = sum-mono wordLimit (λ l _. mul-le-mul-left (wordBytes l) (count-most es l))
-
-indicator-or : (a b : Bool) → indicator b ≤ indicator (a || b)
-indicator-or true b = indicator-most b
-indicator-or false b = le-refl (indicator b)
-
-count-mono : (e : Entry) (es : List Entry) (l : ℕ) → count es l ≤ count (e ∷ es) l
-count-mono e es l = sum-mono sectorLimit (λ p _. indicator-or (is e l p) (namedBefore es (place l p)))
-
-named-place : (es : List Entry) (e : Entry) → namedBefore es (place (e .word) (e .position)) ≡ namedBefore es e
-named-place [] e = refl
-named-place (f ∷ es) e = ap (λ (b : Bool). eqb (f .word) (e .word) && eqb (f .position) (e .position) || b) (named-place es e)
-
-or-true : (a b : Bool) → a ≡ true → indicator (a || b) ≡ 1
-or-true true b e = refl
-or-true false b e = absurd (false≢true e)
-
--- a cell that was not named adds its bytes
-count-more : (e : Entry) (es : List Entry) → namedBefore es e ≡ false → e .position < sectorLimit → count es (e .word) + 1 ≤ count (e ∷ es) (e .word)
-count-more e es fresh h =
-    let itself : is e (e .word) (e .position) ≡ true =
-    rw (eq-eqb (e .word) (e .word) refl, eq-eqb (e .position) (e .position) refl) refl
-    in
-    let before : indicator (namedBefore es (place (e .word) (e .position))) ≡ 0 = ap indicator (named-place es e ∙ fresh) in
-    let after = or-true (is e (e .word) (e .position)) (namedBefore es (place (e .word) (e .position))) itself in
-    sum-lift sectorLimit (e .position) 1 h (λ p _. indicator-or (is e (e .word) p) (namedBefore es (place (e .word) p))) (omega arith)
-
-weight-more : (e : Entry) (es : List Entry) → namedBefore es e ≡ false → e .word < wordLimit → e .position < sectorLimit → weight es + wordBytes (e .word) ≤ weight (e ∷ es)
-unfolding weight
-weight-more e es fresh hl hp =
-    let b = wordBytes (e .word) in
-    let one-more : b * (count es (e .word) + 1) ≤ b * count (e ∷ es) (e .word) = mul-le-mul-left b (count-more e es fresh hp) in
-    let split : b * (count es (e .word) + 1) ≡ b * count es (e .word) + b = mul-add b (count es (e .word)) 1 ∙ ap (λ (x : ℕ). b * count es (e .word) + x) (mul-one b) in
-    sum-lift wordLimit (e .word) b hl (λ l _. mul-le-mul-left (wordBytes l) (count-mono e es l))
-    (subst (λ (x : ℕ). x ≤ b * count (e ∷ es) (e .word)) split one-more)
+pub weight-most : (es : List Entry) → weight es ≤ sum wordLimit (λ w. wordBytes w * sectorLimit)
+unfolding tally
+weight-most es =
+    sum-mono wordLimit (λ w _.
+    mul-le-mul-left (wordBytes w)
+    (subst (λ (k : ℕ). count sectorLimit es w ≤ k) (sum-const sectorLimit 1) (sum-mono sectorLimit (λ p _. indicator-most (namedBefore es (place w p))))))
 
 -- ---- what the reader has seen of a record when it takes it
 abbrev accepted : Reading → Bool
@@ -115,7 +48,7 @@ either false x y e p q = q refl e
 pub offset-on : (s : List ℕ) (es : List Entry) (at : ℕ) {n : ℕ} → n ≤ sectorLimit → Taken n s at → namedBefore es (entryAt s at) ≡ false → at ≤ 2 + weight es → nextAt s at ≤ 2 + weight (entryAt s at ∷ es)
 offset-on s es at most t fresh h =
     let place = t .within .place in
-    let more = weight-more (entryAt s at) es fresh (t .within .known) (omega arith) in
+    let more = tally-more (entryAt s at) es fresh sectorLimit (omega arith) wordBytes (t .within .known) in
     let same = t .bytes in
     omega arith
 

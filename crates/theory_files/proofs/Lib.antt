@@ -2,8 +2,10 @@
 pub mod Encoding
 pub mod Files
 pub mod RecordKinds
+pub mod Counts
 pub mod Lengths
 pub mod Prefixes
 pub mod Readings
+pub mod Marks
 pub mod Beyond
 pub mod Decoding

@@ -1,4 +1,4 @@
--- What a reading may be: a refusal with a number up to 15 and a place up to 12,649, or 1 to 40 sectors and cells that such a table has. Assumes nothing.
+-- What a reading may be: a refusal with a number up to 15 and a place up to 12,649, or 1 to 40 sectors and cells that such a table has, each named once. Assumes nothing.
 use mathlib.Core.Bool.{Bool, true, false, _&&_, cond}
 use mathlib.Core.List.{List, [], _∷_}
 use mathlib.Core.Path.{_≡_, refl, subst}
@@ -22,10 +22,15 @@ abbrev pub AllWithin : ℕ → List Entry → Type 0
 AllWithin n [] = Unit {0}
 AllWithin n (e ∷ es) = Within n e × AllWithin n es
 
+-- and no two of them are the same cell
+abbrev pub Distinct : List Entry → Type 0
+Distinct [] = Unit {0}
+Distinct (e ∷ es) = (namedBefore es e ≡ false) × Distinct es
+
 -- with places up to `most`
 abbrev pub Answered : ℕ → Reading → Type 0
 Answered most (Reading.refused number place) = (number ≤ 15) × (place ≤ most)
-Answered most (Reading.table n es) = (1 ≤ n) × (n ≤ sectorLimit) × AllWithin n es
+Answered most (Reading.table n es) = (1 ≤ n) × (n ≤ sectorLimit) × AllWithin n es × Distinct es
 
 -- What holds of a refusal and of what follows holds of a question: of one that refuses where its test passes, and of one that refuses where it fails
 module _ (P : Reading → Type 0) where
@@ -41,11 +46,11 @@ module _ (P : Reading → Type 0) where
   either true x y p q = p refl
   either false x y p q = q refl
 
-walk-answered : (fuel : ℕ) (s : List ℕ) (n : ℕ) (es : List Entry) (at : ℕ) → 1 ≤ n → n ≤ sectorLimit → AllWithin n es
+walk-answered : (fuel : ℕ) (s : List ℕ) (n : ℕ) (es : List Entry) (at : ℕ) → 1 ≤ n → n ≤ sectorLimit → AllWithin n es → Distinct es
     → Answered (length s) (walk fuel s n es at)
 unfolding walk
-walk-answered zero s n es at some few all = (le-refl 15, le-refl (length s))
-walk-answered (suc fuel) s n es at some few all =
+walk-answered zero s n es at some few all once = (le-refl 15, le-refl (length s))
+walk-answered (suc fuel) s n es at some few all once =
     let len = length s in
     let P = Answered len in
     unless P (leb len at) _ 15 len (le-refl 15, le-refl len) (λ on.
@@ -53,11 +58,11 @@ walk-answered (suc fuel) s n es at some few all =
     provided P (wholeAt s at) _ 11 at (lit≤ tt, omega arith) (λ whole.
     unless P (eqb (kindAt s at) 1) _ 12 at (lit≤ tt, omega arith) (λ later.
     either P (eqb (kindAt s at) 8) _ _
-    (λ ends. provided P (eqb (at + 1) len) (Reading.table n es) 15 (at + 1) (le-refl 15, omega arith) (λ last. (some, few, all)))
+    (λ ends. provided P (eqb (at + 1) len) (Reading.table n es) 15 (at + 1) (le-refl 15, omega arith) (λ last. (some, few, all, once)))
     (λ names.
     provided P (insideAt s at n) _ 13 at (lit≤ tt, omega arith) (λ inside.
     unless P (namedBefore es (entryAt s at)) _ 14 at (lit≤ tt, omega arith) (λ fresh.
-    walk-answered fuel s n (entryAt s at ∷ es) (nextAt s at) some few (taken s at whole later names n few inside .within, all)))))))
+    walk-answered fuel s n (entryAt s at ∷ es) (nextAt s at) some few (taken s at whole later names n few inside .within, all) (fresh, once)))))))
 
 whole-answered : (s : List ℕ) → Answered (length s) (reading s)
 unfolding reading
@@ -69,7 +74,7 @@ whole-answered s =
     provided P (wholeAt s 0) _ 11 0 (lit≤ tt, omega arith) (λ whole.
     provided P (eqb (kindAt s 0) 1 && fewSectors n) _ 12 0 (lit≤ tt, omega arith) (λ sized.
     let few = from-one n sectorLimit (and-true (eqb (kindAt s 0) 1) (fewSectors n) sized .1) in
-    walk-answered len s n [] 2 (few .0) (few .1) tt)))
+    walk-answered len s n [] 2 (few .0) (few .1) tt tt)))
 
 answered-more : (a b : ℕ) (r : Reading) → a ≤ b → Answered a r → Answered b r
 answered-more a b (Reading.refused number place) h p = (p .0, omega (arith, p .1))

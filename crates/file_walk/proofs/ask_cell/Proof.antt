@@ -6,9 +6,8 @@ use Prim.Native.Nat.{ℕ, _+_}
 use native.Mathlib.Omega.{arith}
 use borrow.Author.Needs.{needs}
 use borrow.Author.Tests.{not-true, not-false}
-use Rattle.model.specs.File.{Entry, insideAt, entryAt, namedBefore, walk}
+use Rattle.model.specs.File.{Entry, insideAt, entryAt, namedBefore, marked, walk}
 use Rattle.file_records.specs.Bodies.{Body}
-use Rattle.file_records.specs.Marks.{marked}
 use Rattle.theory_files.proofs.RecordKinds.{Taken}
 use Rattle.file_walk.specs.Steps.{Agrees, Names}
 use Rattle.file_walk.proofs.WalkLaws.{outside, twice, fresh}

@@ -12,10 +12,10 @@ use Rattle.file_walk.proofs.walk.Statement.{statement}
 use Rattle.file_walk.proofs.walk.Tie as tie
 
 abbrev Inv-loop : tie.InvT-loop
-Inv-loop file n cells₀ marks₀ at₀ named₀ cells marks at named = Walking file n cells marks at named × (length cells₀ ≡ cellLimit) × (length marks₀ ≡ wordLimit)
+Inv-loop file n cells₀ marks₀ at₀ cells marks at = Walking file n cells marks at × (length cells₀ ≡ cellLimit) × (length marks₀ ≡ wordLimit)
 
 abbrev μ-loop : tie.MeasureT-loop
-μ-loop file n cells₀ marks₀ at₀ named₀ cells marks at named = length file - at
+μ-loop file n cells₀ marks₀ at₀ cells marks at = length file - at
 
 abbrev entry : tie.At-loop Inv-loop μ-loop → tie.Start Inv-loop μ-loop
 entry p = p .before .before .before .before
@@ -48,10 +48,10 @@ ask-requires : tie.Need-ask-requires Inv-loop μ-loop
 ask-requires c κs = let p = c .before in (entry p .pre .0, p .loop .inv .0 .kept .agrees .words)
 
 returns : tie.Need-returns Inv-loop μ-loop
-returns c = let q = c .before .before .before in stopped _ _ _ _ _ _ (head q .loop .inv .0) _ _ (asked q _ (c .before .step .given .1))
+returns c = let q = c .before .before .before in stopped _ _ _ _ _ (head q .loop .inv .0) _ _ (asked q _ (c .before .step .given .1))
 
 returns-2 : tie.Need-returns-2 Inv-loop μ-loop
-returns-2 c = let q = c .before .before in finished _ _ _ _ _ _ (head q .loop .inv .0) (asked q _ (c .enum-told .given .1))
+returns-2 c = let q = c .before .before in finished _ _ _ _ _ (head q .loop .inv .0) (asked q _ (c .enum-told .given .1))
 
 -- a named cell
 abbrev before-keep : tie.After-known-told2 Inv-loop μ-loop → tie.After-ask Inv-loop μ-loop
@@ -70,13 +70,6 @@ keep-requires c κs =
     let m = asked (before-keep k) _ (k .before .step2 .given .1) .1 in
     (entry p .pre .0, p .loop .inv .0 .kept .held .long, p .loop .inv .0 .kept .agrees .words, m .within)
 
-add-named : tie.Need-add-named Inv-loop μ-loop
-add-named c =
-    let p = head (before-keep (told c)) in
-    let w = p .loop .inv .0 in
-    let g = entry p .good in
-    omega arith
-
 loop-less : tie.Need-loop-less Inv-loop μ-loop
 loop-less c =
     let k = told c in
@@ -90,7 +83,7 @@ loop-again c =
     let k = told c in
     let i = head (before-keep k) .loop .inv in
     let g = k .before .step2 .given .0 in
-    (goes-on _ _ _ _ _ _ (i .0) (record { word = g .0; position = g .1 .0; amount = g .1 .1 .0 }) _ _ _ (asked (before-keep k) _ (k .before .step2 .given .1)) (after-keep c .keep .ensures), i .1, i .2)
+    (goes-on _ _ _ _ _ (i .0) (record { word = g .0; position = g .1 .0; amount = g .1 .1 .0 }) _ _ _ (asked (before-keep k) _ (k .before .step2 .given .1)) (after-keep c .keep .ensures), i .1, i .2)
 
 pub walk-spec : {M : Type 1} → statement M
 walk-spec =
@@ -98,4 +91,4 @@ walk-spec =
     (tie.spec
     Inv-loop μ-loop loop-holds ask-requires (λ c. search needs) (λ c. long (head (c .before .before .before))) (λ c. words (head (c .before .before .before)))
     returns (λ c. search needs) (λ c. long (head (c .before .before))) (λ c. words (head (c .before .before))) returns-2
-    (λ c. search needs) keep-requires add-named loop-less loop-again)
+    (λ c. search needs) keep-requires loop-less loop-again)

@@ -2,13 +2,13 @@
 use mathlib.Core.Path.{_≡_, sym, subst}
 use borrow.Author.Needs.{needs}
 use Rattle.model.specs.File.{Reading}
-use Rattle.model.specs.declared.TableRead.{TableRead}
+use Rattle.file_walk.specs.declared.Walked.{Walked}
 use Rattle.file_walk.specs.Steps.{Ends, Opened}
 use Rattle.file_walk.proofs.Loops.{keeps-none}
 use Rattle.file_walk.proofs.walk_file.Statement.{statement}
 use Rattle.file_walk.proofs.walk_file.Tie as tie
 
-opened : (c : tie.After-open) (t : TableRead) → c .open .result ≡ t → Opened (c .before .before .before .before .args .file .now) t
+opened : (c : tie.After-open) (t : Walked) → c .open .result ≡ t → Opened (c .before .before .before .before .args .file .now) t
 opened c t e = subst (Opened (c .before .before .before .before .args .file .now)) e (c .open .ensures)
 
 walk-requires : tie.Need-walk-requires
@@ -23,7 +23,7 @@ returns c = opened (c .before .before .before) _ (c .before .opening .given .1)
 returns-2 : tie.Need-returns-2
 returns-2 c =
     let w = c .before .before .before .before .walk in
-    subst (λ (o : Reading). Ends o (w .result) (w .last .1 .1 .0)) (sym (opened (c .before .before .before .before .before .before .before .before .before .before) _ (c .before .before .before .before .before .before .before .before .opening2 .given .1) .0)) (w .ensures)
+    subst (λ (o : Reading). Ends o (w .result) (w .last .1 .1 .0) (w .last .1 .1 .1 .0)) (sym (opened (c .before .before .before .before .before .before .before .before .before .before) _ (c .before .before .before .before .before .before .before .before .opening2 .given .1) .0)) (w .ensures)
 
 pub walk-file-spec : {M : Type 1} → statement M
 walk-file-spec =

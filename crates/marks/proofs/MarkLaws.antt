@@ -14,7 +14,7 @@ use lib.Pow.{pow-lt, pow-add, shl-shr, shl-exact}
 use lib.Seq.{getD-set-same, getD-set-other}
 use Rattle.model.specs.Numbers.{cell, bit}
 use Rattle.theory.proofs.Lists.{cell-zeros}
-use Rattle.file_records.specs.Marks.{marked}
+use Rattle.model.specs.File.{marked}
 
 -- of two bits, `or` is the larger
 or-bits : (r s : ℕ) → r < 2 → s < 2 → bitOr r s ≡ max r s
@@ -26,7 +26,7 @@ or-bits zero (suc (suc s)) a b = absurd (not-suc-le-zero (le-of-suc-le-suc (le-o
 or-bits (suc zero) (suc (suc s)) a b = absurd (not-suc-le-zero (le-of-suc-le-suc (le-of-suc-le-suc b)))
 or-bits (suc (suc r)) s a b = absurd (not-suc-le-zero (le-of-suc-le-suc (le-of-suc-le-suc a)))
 
-bit-lt : (w k : ℕ) → bit w k < 2
+pub bit-lt : (w k : ℕ) → bit w k < 2
 bit-lt w k = mod-lt (w / 2 ^ k) (zero-lt-suc 1)
 
 bit-or : (a b k : ℕ) → bit (bitOr a b) k ≡ max (bit a k) (bit b k)

@@ -1,8 +1,8 @@
--- `file_records::mark` meets its contract. Assumes nothing.
+-- `marks::mark` meets its contract. Assumes nothing.
 use borrow.Author.Needs.{needs}
-use Rattle.file_records.proofs.MarkLaws.{marked-more}
-use Rattle.file_records.proofs.mark.Statement.{statement}
-use Rattle.file_records.proofs.mark.Tie as tie
+use Rattle.marks.proofs.MarkLaws.{marked-more}
+use Rattle.marks.proofs.mark.Statement.{statement}
+use Rattle.marks.proofs.mark.Tie as tie
 
 returns : tie.Need-returns
 returns c = let s = c .before in marked-more (s .args .marks .now) (s .args .word) (s .args .position) (s .pre .0) (s .pre .1)

@@ -1,8 +1,8 @@
--- `file_records::is_marked` meets its contract. Assumes nothing.
+-- `marks::is_marked` meets its contract. Assumes nothing.
 use borrow.Author.Needs.{needs}
-use Rattle.file_records.specs.Marks.{marked}
-use Rattle.file_records.proofs.is_marked.Statement.{statement}
-use Rattle.file_records.proofs.is_marked.Tie as tie
+use Rattle.model.specs.File.{marked}
+use Rattle.marks.proofs.is_marked.Statement.{statement}
+use Rattle.marks.proofs.is_marked.Tie as tie
 
 returns : tie.Need-returns
 unfolding marked

@@ -1,0 +1,45 @@
+-- The ones of a word are its set positions, and they are at most 64. Assumes nothing.
+use mathlib.Core.List.{List}
+use mathlib.Core.Path.{_≡_, refl, sym, ap, _∙_, subst}
+use Prim.Native.Nat.{ℕ, zero, suc, _+_, _*_, _/_, _%_, _^_, _≤_, _<_}
+use native.Mathlib.Nat.{mod-lt, mod-one, mod-eq-of-lt, add-comm, zero-lt-suc, le-of-suc-le-suc}
+use native.Mathlib.Numerals.{one-add}
+use native.Mathlib.Omega.{arith}
+use lib.Count.{ones, ones-cat}
+use lib.Pow.{pow-pos, mod-pow-add}
+use Rattle.model.specs.Numbers.{sum, cell, bit, setPositions}
+use Rattle.model.specs.File.{markTotal, wordLimit}
+use Rattle.theory.proofs.Sums.{sum-mono, sum-const}
+use Rattle.marks.proofs.MarkLaws.{bit-lt}
+
+ones-bit : (b : ℕ) → b < 2 → ones b ≡ b
+unfolding ones
+ones-bit zero h = refl
+ones-bit (suc zero) h = refl
+ones-bit (suc (suc b)) h = absurd (omega arith)
+
+-- the first k positions
+ones-low : (k w : ℕ) → ones (w % 2 ^ k) ≡ sum k (bit w)
+unfolding ones
+ones-low zero w = ap ones (mod-one w)
+ones-low (suc k) w =
+    ap (λ (j : ℕ). ones (w % 2 ^ j)) (sym (one-add k))
+    ∙ ap ones (mod-pow-add w 1 k)
+    ∙ ones-cat k (bit w k) (w % 2 ^ k) (mod-lt w (pow-pos k))
+    ∙ add-comm (ones (bit w k)) (ones (w % 2 ^ k))
+    ∙ ap (λ (n : ℕ). ones (w % 2 ^ k) + n) (ones-bit (bit w k) (bit-lt w k))
+    ∙ ap (λ (n : ℕ). n + bit w k) (ones-low k w)
+
+pub ones-set : (w : ℕ) → w < 2 ^ 64 → ones w ≡ setPositions w
+unfolding setPositions
+ones-set w h = ap ones (sym (mod-eq-of-lt h)) ∙ ones-low 64 w
+
+-- all words together have at most 46 times 64
+pub set-most : (w : ℕ) → setPositions w ≤ 64
+unfolding setPositions
+set-most w = subst (λ (k : ℕ). sum 64 (bit w) ≤ k) (sum-const 64 1) (sum-mono 64 (λ k _. le-of-suc-le-suc (bit-lt w k)))
+
+pub total-most : (marks : List ℕ) → markTotal marks ≤ wordLimit * 64
+unfolding markTotal
+total-most marks =
+    subst (λ (k : ℕ). sum wordLimit (λ w. setPositions (cell marks w)) ≤ k) (sum-const wordLimit 64) (sum-mono wordLimit (λ w _. set-most (cell marks w)))

@@ -1,0 +1,44 @@
+// Leaves over words of marks, 64 positions each: a position asked, set, and the set ones counted.
+ghost use mathlib.Core.Bool.{_&&_, _||_};
+ghost use mathlib.Core.Path.{_≡_};
+ghost use Prim.Native.Nat.{ℕ, _<_};
+ghost use lib.Dec.{eqb};
+ghost use lib.ListN.{length};
+ghost use Rattle.model.specs.Numbers.{setPositions};
+ghost use Rattle.model.specs.File.{marked, markTotal, wordLimit};
+
+// Was the cell named before?
+pub fn is_marked(marks: &[u64], word: usize, position: usize) -> bool
+    requires { ⌜ (word < length (now marks)) × (position < 64) ⌝ }
+    ensures { λ r. ⌜ r ≡ marked (now (marks .entry)) word position ⌝ }
+{
+    (marks[word] >> position) % 2 == 1
+}
+
+// Marks a cell, and no other.
+pub fn mark(marks: &mut [u64], word: usize, position: usize)
+    requires { ⌜ (word < length (now marks)) × (position < 64) ⌝ }
+    ensures { λ _. ⌜ ((i k : ℕ) → marked (now (marks .exit)) i k ≡ (eqb word i && eqb position k || marked (now (marks .entry)) i k)) ⌝ }
+{
+    let before = marks[word];
+    marks[word] = before | (1u64 << position);
+}
+
+// The ones of a word, by the machine's own count.
+pub fn ones(word: u64) -> usize
+    ensures { λ r. ⌜ r ≡ setPositions word ⌝ }
+{
+    u64::count_ones(word) as usize
+}
+
+// How many cells are marked: the ones of every word.
+pub fn count_marks(marks: &[u64]) -> usize
+    requires { ⌜ length (now marks) ≡ wordLimit ⌝ }
+    ensures { λ r. ⌜ r ≡ markTotal (now (marks .entry)) ⌝ }
+{
+    let mut total: usize = 0;
+    for word in 0..marks.len() {
+        total += ones(marks[word]);
+    }
+    total
+}
