@@ -3,7 +3,7 @@ use mathlib.Core.Bool.{Bool, false, _&&_, _||_}
 use mathlib.Core.List.{List}
 use mathlib.Core.Path.{_≡_, refl, sym, ap, ap₂, _∙_, subst}
 use Prim.Native.Nat.{ℕ, zero, suc, _+_, _-_, _*_, _/_, _%_, _^_, _<_, max}
-use native.Mathlib.Nat.{zero-div, mod-lt, div-eq-of-lt, max-zero, zero-lt-suc, le-of-suc-le-suc, not-suc-le-zero, one-mul}
+use native.Mathlib.Nat.{zero-div, div-eq-of-lt, max-zero, le-of-suc-le-suc, not-suc-le-zero, one-mul}
 use native.Mathlib.Decide.{ℕ-discrete, decLt}
 use native.Mathlib.Omega.{arith}
 use borrow.Author.Tests.{eq-eqb, ne-eqb}
@@ -13,8 +13,9 @@ use lib.ListN.{length, set, replicate}
 use lib.Pow.{pow-lt, pow-add, shl-shr, shl-exact}
 use lib.Seq.{getD-set-same, getD-set-other}
 use Rattle.model.specs.Numbers.{cell, bit}
-use Rattle.theory.proofs.Lists.{cell-zeros}
 use Rattle.model.specs.File.{marked}
+use Rattle.theory.proofs.Lists.{cell-zeros}
+use Rattle.theory.proofs.Bits.{bit-lt}
 
 -- of two bits, `or` is the larger
 or-bits : (r s : ℕ) → r < 2 → s < 2 → bitOr r s ≡ max r s
@@ -25,9 +26,6 @@ or-bits (suc zero) (suc zero) a b = refl
 or-bits zero (suc (suc s)) a b = absurd (not-suc-le-zero (le-of-suc-le-suc (le-of-suc-le-suc b)))
 or-bits (suc zero) (suc (suc s)) a b = absurd (not-suc-le-zero (le-of-suc-le-suc (le-of-suc-le-suc b)))
 or-bits (suc (suc r)) s a b = absurd (not-suc-le-zero (le-of-suc-le-suc (le-of-suc-le-suc a)))
-
-pub bit-lt : (w k : ℕ) → bit w k < 2
-bit-lt w k = mod-lt (w / 2 ^ k) (zero-lt-suc 1)
 
 bit-or : (a b k : ℕ) → bit (bitOr a b) k ≡ max (bit a k) (bit b k)
 bit-or a b k = ap (λ (x : ℕ). x % 2) (or-shr a b k) ∙ or-mod (a / 2 ^ k) (b / 2 ^ k) 1 ∙ or-bits (bit a k) (bit b k) (bit-lt a k) (bit-lt b k)

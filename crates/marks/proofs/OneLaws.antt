@@ -1,8 +1,8 @@
--- The ones of a word are its set positions, and they are at most 64. Assumes nothing.
+-- The ones of a word are its set positions. Assumes nothing.
 use mathlib.Core.List.{List}
 use mathlib.Core.Path.{_≡_, refl, sym, ap, _∙_, subst}
-use Prim.Native.Nat.{ℕ, zero, suc, _+_, _*_, _/_, _%_, _^_, _≤_, _<_}
-use native.Mathlib.Nat.{mod-lt, mod-one, mod-eq-of-lt, add-comm, zero-lt-suc, le-of-suc-le-suc}
+use Prim.Native.Nat.{ℕ, zero, suc, _+_, _*_, _%_, _^_, _≤_, _<_}
+use native.Mathlib.Nat.{mod-lt, mod-one, mod-eq-of-lt, add-comm}
 use native.Mathlib.Numerals.{one-add}
 use native.Mathlib.Omega.{arith}
 use lib.Count.{ones, ones-cat}
@@ -10,7 +10,7 @@ use lib.Pow.{pow-pos, mod-pow-add}
 use Rattle.model.specs.Numbers.{sum, cell, bit, setPositions}
 use Rattle.model.specs.File.{markTotal, wordLimit}
 use Rattle.theory.proofs.Sums.{sum-mono, sum-const}
-use Rattle.marks.proofs.MarkLaws.{bit-lt}
+use Rattle.theory.proofs.Bits.{bit-lt, set-most}
 
 ones-bit : (b : ℕ) → b < 2 → ones b ≡ b
 unfolding ones
@@ -35,10 +35,6 @@ unfolding setPositions
 ones-set w h = ap ones (sym (mod-eq-of-lt h)) ∙ ones-low 64 w
 
 -- all words together have at most 46 times 64
-pub set-most : (w : ℕ) → setPositions w ≤ 64
-unfolding setPositions
-set-most w = subst (λ (k : ℕ). sum 64 (bit w) ≤ k) (sum-const 64 1) (sum-mono 64 (λ k _. le-of-suc-le-suc (bit-lt w k)))
-
 pub total-most : (marks : List ℕ) → markTotal marks ≤ wordLimit * 64
 unfolding markTotal
 total-most marks =

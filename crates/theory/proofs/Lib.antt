@@ -1,5 +1,6 @@
 -- Laws of sums, lists and searches, of matrices and shares, of lists of checks, of decimals, and of texts written piece by piece.
 pub mod Sums
+pub mod Bits
 pub mod Lists
 pub mod Matrices
 pub mod Shares

@@ -1,9 +1,8 @@
 -- The ones of the mark words count the named cells. Assumes nothing.
-use mathlib.Core.Bool.{Bool, true, false}
 use mathlib.Core.List.{List, [], _∷_}
 use mathlib.Core.Path.{_≡_, refl, sym, ap, _∙_, subst}
-use Prim.Native.Nat.{ℕ, zero, suc, _+_, _/_, _^_, _≤_, _<_}
-use native.Mathlib.Nat.{mod-lt, one-mul, zero-lt-suc, not-suc-le-zero, le-of-suc-le-suc}
+use Prim.Native.Nat.{ℕ, zero, suc, _≤_, _<_}
+use native.Mathlib.Nat.{one-mul, not-suc-le-zero, le-of-suc-le-suc}
 use native.Mathlib.Numerals.{add-one}
 use native.Mathlib.Omega.{arith}
 use lib.Dec.{eqb}
@@ -12,6 +11,7 @@ use Rattle.model.specs.Numbers.{cell, bit, setPositions}
 use Rattle.model.specs.Table.{sectorLimit}
 use Rattle.model.specs.File.{Entry, namedBefore, marked, markTotal, wordLimit, Reading, reading}
 use Rattle.theory.proofs.Sums.{sum-cong}
+use Rattle.theory.proofs.Bits.{bit-lt}
 use Rattle.theory_files.specs.Files.{inputLimit}
 use Rattle.theory_files.proofs.Counts.{indicator, place, count, tally, tally-more}
 use Rattle.theory_files.proofs.Readings.{AllWithin, Distinct, Answered, reading-answered}
@@ -38,6 +38,6 @@ named-total s n es r marks same =
     let a : Answered inputLimit (Reading.table n es) = subst (Answered inputLimit) r (reading-answered s) in
     sum-cong wordLimit (λ w _.
     sum-cong 64 (λ p _.
-    bit-indicator (bit (cell marks w) p) (mod-lt (cell marks w / 2 ^ p) (zero-lt-suc 1)) ∙ ap indicator (same (place w p)))
+    bit-indicator (bit (cell marks w) p) (bit-lt (cell marks w) p) ∙ ap indicator (same (place w p)))
     ∙ sym (one-mul (count 64 es w)))
     ∙ tally-ones n (a .1) es (a .2) (a .3)

@@ -1,6 +1,7 @@
 -- `marks::ones` meets its contract: the machine counts the set positions. Assumes nothing.
 use native.Mathlib.Omega.{arith}
-use Rattle.marks.proofs.OneLaws.{ones-set, set-most}
+use Rattle.theory.proofs.Bits.{set-most}
+use Rattle.marks.proofs.OneLaws.{ones-set}
 use Rattle.marks.proofs.ones.Statement.{statement}
 use Rattle.marks.proofs.ones.Tie as tie
 
