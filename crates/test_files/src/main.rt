@@ -1,8 +1,19 @@
 // Runs the call that writes a table as a file on the worked table of document 01 and its neighbours, and prints each answer with the bytes of the
-// file, and after a bar what the bytes after the file hold together, by `or`. Every byte that is lent is 7 before the call.
+// file, and after a bar what the bytes after the file hold together, by `or`. Every byte that is lent is 7 before the call. Then the call that reads
+// a file, with n and how many cells are named, and after a bar how many marks are left; and the ones of single words.
+use file_reader::read_table;
 use file_writer::write_table;
+use marks::count_marks;
+use marks::ones;
 use model::FILE;
+use model::SECTORS;
+use model::SHEET;
+use model::WORDS;
 use test_show::show_bytes;
+use test_show::show_cells;
+use test_show::show_end;
+use test_show::show_more;
+use test_show::show_read;
 use test_show::show_word;
 use test_show::show_written;
 
@@ -88,10 +99,75 @@ fn byte_more() {
     cut(2, &[0; 4], &[0; 12], &mut file);
 }
 
+// Every mark is set before the call.
+fn read(name: &[u8], file: &[u8]) {
+    let mut marks = [18446744073709551615u64; WORDS];
+    show_word(name);
+    show_read(read_table(
+        file,
+        &mut [7u64; SHEET],
+        &mut [7u64; SECTORS],
+        &mut [7u64; SECTORS],
+        &mut [7u64; SECTORS],
+        &mut [7u64; SECTORS],
+        &mut [7u64; SECTORS],
+        &mut [7u64; SECTORS],
+        &mut marks,
+    ));
+    show_more(&[count_marks(&marks) as u64]);
+    show_end();
+}
+
+// All cells of 40 sectors: 40 ones in each of the words.
+fn read_full() {
+    let mut file = [0u8; FILE];
+    let column = [1u64; SECTORS];
+    write_table(
+        SECTORS,
+        &[1u64; SHEET],
+        &column,
+        &column,
+        &column,
+        &column,
+        &column,
+        &column,
+        &mut file,
+    );
+    read(b"every cell named", &file);
+}
+
+fn named() {
+    read(b"no cell named", &[1, 2, 8]);
+    read(b"a zero named", &[1, 2, 3, 1, 0, 0, 0, 0, 8]);
+    read(
+        b"a cell named twice",
+        &[1, 2, 3, 1, 0, 0, 0, 0, 3, 1, 0, 0, 0, 0, 8],
+    );
+    read_full();
+}
+
+// No position, the lowest, the highest, both, every second and all.
+fn words() {
+    show_word(b"ones");
+    show_cells(
+        &[
+            ones(0) as u64,
+            ones(1) as u64,
+            ones(9223372036854775808) as u64,
+            ones(9223372036854775809) as u64,
+            ones(6148914691236517205) as u64,
+            ones(18446744073709551615) as u64,
+        ],
+    );
+    show_end();
+}
+
 fn main() {
     written();
     refused();
     rises_short();
     byte_short();
     byte_more();
+    named();
+    words();
 }

@@ -3,6 +3,7 @@ use io::print_decimal;
 use libc::STDOUT_FILENO;
 use model::Answer;
 use model::Outcome;
+use model::TableRead;
 use model::TableWritten;
 
 pub fn show_outcome(outcome: Outcome) {
@@ -34,6 +35,18 @@ pub fn show_written(answer: TableWritten) -> usize {
             show_refusal(number, place);
             0
         }
+    }
+}
+
+// The reader's answer: n and how many cells were named.
+pub fn show_read(answer: TableRead) {
+    match answer {
+        TableRead::Read { sectors, named } => {
+            show_word(b" read");
+            show_cell(sectors as u64);
+            show_cell(named as u64);
+        }
+        TableRead::Refused { number, place } => show_refusal(number, place),
     }
 }
 
