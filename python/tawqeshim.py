@@ -68,7 +68,7 @@ from numbers import Integral
 from pathlib import Path
 from typing import Any, NamedTuple, NoReturn, Optional, Protocol, Union
 
-__version__ = "1.1.0"
+__version__ = "1.1.1"
 __all__ = ["QUESTIONS", "Refused", "Coefficients", "Production", "Prices", "Induced", "Inverse", "Table", "coefficients", "production",
            "price", "implied_demand", "induced", "inverse", "row", "read_table", "write_table", "page"]
 

@@ -1,5 +1,5 @@
-//! The paper's worked cases P1 to P12, its slips and its printed sheet, with the paper's numbers; and
-//! the worked table written as a file.
+//! The paper's worked cases P1 to P12, its slips and its printed sheet, with the paper's numbers; files
+//! that name one cell or all; and the worked table written as a file.
 
 use crate::calls::{Call, Case, Outcome};
 use crate::reference::{self, Refusal, FILE_BYTES, ONE};
@@ -117,7 +117,30 @@ pub fn cases() -> Vec<(&'static str, Case, Outcome)> {
     let empty = Case::of_file(Call::ReadTable, vec![]);
     let fifteen = refused(&empty, 15, 0);
     cases.push(("empty file", empty, fifteen));
+    cases.extend(named_cases());
     cases.extend(writer_cases());
+    cases
+}
+
+/// "How many cells were named", of 40 sectors: each cell alone, named as 0, and then all of them.
+fn named_cases() -> Vec<(&'static str, Case, Outcome)> {
+    let sectors = 1..=40;
+    let mut records: Vec<Vec<u8>> = Vec::new();
+    for row in sectors.clone() {
+        records.extend(sectors.clone().map(|column| vec![2, row, column, 0, 0, 0, 0]));
+    }
+    for kind in [3, 4, 5, 6, 7, 9] {
+        records.extend(sectors.clone().map(|sector| vec![kind, sector, 0, 0, 0, 0]));
+    }
+    let zeros: Vec<Vec<u64>> = reference::FILE_LENGTHS.iter().map(|k| vec![0; *k]).collect();
+    let naming = |name, records: &[Vec<u8>]| {
+        let file = [vec![1, 40], records.concat(), vec![8]].concat();
+        let counts = [40, records.len()];
+        let outcome = Outcome { number: 0, place: 0, counts, cells: zeros.clone(), bytes: vec![] };
+        (name, Case::of_file(Call::ReadTable, file), outcome)
+    };
+    let mut cases: Vec<_> = records.chunks(1).map(|one| naming("one cell named", one)).collect();
+    cases.push(naming("every cell named", &records));
     cases
 }
 
