@@ -12,7 +12,7 @@ use Rattle.model.specs.Promises.{AcceptedMatrix}
 use Rattle.inverse_ratios.specs.Columns.{inverseCellLimit, Dispersed}
 use Rattle.inverse_ratios.proofs.Dispersion.{turned}
 use Rattle.inverse_columns.proofs.Leontief.{unit-cell, unit-small, inverse-cell, length-inverse}
-use Rattle.theory.proofs.Sums.{sum-mono, sum-const, sum-cell}
+use Rattle.theory.proofs.Sums.{sum-most, sum-cell}
 use Rattle.theory_rounds.proofs.Gauge.{total-gauge}
 use Rattle.theory_rounds.proofs.Rounds.{above-start}
 use Rattle.theory_rounds.proofs.Accuracy.{rounds-bounded}
@@ -27,8 +27,7 @@ module _ {n : ℕ} {d : List ℕ} (A : AcceptedMatrix n d) (budget : ℕ) where
         arith,
         sum-cell n (cell (settled n (at n d) (unit n j) budget)) i h,
         rounds-bounded n (at n d) (sum n) n (total-gauge n (at n d) (A .low)) (unit n j) (settling n (at n d) (unit n j) budget),
-        sum-mono n {f = cell (unit n j)} {g = λ i. one} (unit-small n j),
-        sum-const n one,
+        sum-most n one {f = cell (unit n j)} (unit-small n j),
       )
 
   -- and a sector's own cell is at least one

@@ -5,18 +5,18 @@ use native.Mathlib.Omega.{arith}
 use Rattle.model.specs.Numbers.{transposed, columnSum, allCells}
 use Rattle.model.specs.Table.{sectorLimit}
 use Rattle.inverse_ratios.specs.Columns.{inverseCellLimit, inverseColumnLimit, Dispersed}
-use Rattle.theory.proofs.Sums.{sum-mono, sum-const, sum-cell}
+use Rattle.theory.proofs.Sums.{sum-most, sum-cell}
 
 module _ {n : ℕ} {c : ℕ → ℕ → ℕ} (D : Dispersed n c) where
   pub column-small : (j : ℕ) → j < n → columnSum n c j ≤ inverseColumnLimit
   column-small j h =
       let few = D .few in
-      omega (arith, sum-mono n {f = transposed c j} {g = λ i. inverseCellLimit} (λ i l. D .small i j l h), sum-const n inverseCellLimit)
+      omega (arith, sum-most n inverseCellLimit {f = transposed c j} (λ i l. D .small i j l h))
 
   pub cells-small : allCells n c ≤ sectorLimit * inverseColumnLimit
   cells-small =
       let few = D .few in
-      omega (arith, sum-mono n {f = columnSum n c} {g = λ j. inverseColumnLimit} column-small, sum-const n inverseColumnLimit)
+      omega (arith, sum-most n inverseColumnLimit {f = columnSum n c} column-small)
 
   pub cells-positive : 1 ≤ allCells n c
   cells-positive =

@@ -2,8 +2,8 @@
 use mathlib.Core.Bool.{Bool, false, _&&_, _||_}
 use mathlib.Core.List.{List}
 use mathlib.Core.Path.{_≡_, refl, sym, ap, ap₂, _∙_, subst}
-use Prim.Native.Nat.{ℕ, zero, suc, _+_, _-_, _*_, _/_, _%_, _^_, _<_, max}
-use native.Mathlib.Nat.{zero-div, div-eq-of-lt, max-zero, le-of-suc-le-suc, not-suc-le-zero, one-mul}
+use Prim.Native.Nat.{ℕ, suc, _+_, _-_, _*_, _/_, _%_, _^_, _<_, max}
+use native.Mathlib.Nat.{zero-div, div-eq-of-lt, max-zero, one-mul}
 use native.Mathlib.Decide.{ℕ-discrete, decLt}
 use native.Mathlib.Omega.{arith}
 use borrow.Author.Tests.{eq-eqb, ne-eqb}
@@ -15,17 +15,12 @@ use lib.Seq.{getD-set-same, getD-set-other}
 use Rattle.model.specs.Numbers.{cell, bit}
 use Rattle.model.specs.File.{marked}
 use Rattle.theory.proofs.Lists.{cell-zeros}
-use Rattle.theory.proofs.Bits.{bit-lt}
+use Rattle.theory.proofs.Bits.{bit-lt, each-bit}
 
 -- of two bits, `or` is the larger
 or-bits : (r s : ℕ) → r < 2 → s < 2 → bitOr r s ≡ max r s
-or-bits zero zero a b = refl
-or-bits zero (suc zero) a b = refl
-or-bits (suc zero) zero a b = refl
-or-bits (suc zero) (suc zero) a b = refl
-or-bits zero (suc (suc s)) a b = absurd (not-suc-le-zero (le-of-suc-le-suc (le-of-suc-le-suc b)))
-or-bits (suc zero) (suc (suc s)) a b = absurd (not-suc-le-zero (le-of-suc-le-suc (le-of-suc-le-suc b)))
-or-bits (suc (suc r)) s a b = absurd (not-suc-le-zero (le-of-suc-le-suc (le-of-suc-le-suc a)))
+or-bits r s a b =
+    each-bit (λ r. bitOr r s ≡ max r s) (each-bit (λ s. bitOr 0 s ≡ max 0 s) refl refl s b) (each-bit (λ s. bitOr 1 s ≡ max 1 s) refl refl s b) r a
 
 bit-or : (a b k : ℕ) → bit (bitOr a b) k ≡ max (bit a k) (bit b k)
 bit-or a b k = ap (λ (x : ℕ). x % 2) (or-shr a b k) ∙ or-mod (a / 2 ^ k) (b / 2 ^ k) 1 ∙ or-bits (bit a k) (bit b k) (bit-lt a k) (bit-lt b k)

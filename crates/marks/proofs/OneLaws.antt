@@ -1,22 +1,19 @@
 -- The ones of a word are its set positions. Assumes nothing.
 use mathlib.Core.List.{List}
-use mathlib.Core.Path.{_≡_, refl, sym, ap, _∙_, subst}
+use mathlib.Core.Path.{_≡_, refl, sym, ap, _∙_}
 use Prim.Native.Nat.{ℕ, zero, suc, _+_, _*_, _%_, _^_, _≤_, _<_}
 use native.Mathlib.Nat.{mod-lt, mod-one, mod-eq-of-lt, add-comm}
 use native.Mathlib.Numerals.{one-add}
-use native.Mathlib.Omega.{arith}
 use lib.Count.{ones, ones-cat}
 use lib.Pow.{pow-pos, mod-pow-add}
 use Rattle.model.specs.Numbers.{sum, cell, bit, setPositions}
 use Rattle.model.specs.File.{markTotal, wordLimit}
-use Rattle.theory.proofs.Sums.{sum-mono, sum-const}
-use Rattle.theory.proofs.Bits.{bit-lt, set-most}
+use Rattle.theory.proofs.Sums.{sum-most}
+use Rattle.theory.proofs.Bits.{bit-lt, each-bit, set-most}
 
 ones-bit : (b : ℕ) → b < 2 → ones b ≡ b
 unfolding ones
-ones-bit zero h = refl
-ones-bit (suc zero) h = refl
-ones-bit (suc (suc b)) h = absurd (omega arith)
+ones-bit = each-bit (λ b. ones b ≡ b) refl refl
 
 -- the first k positions
 ones-low : (k w : ℕ) → ones (w % 2 ^ k) ≡ sum k (bit w)
@@ -37,5 +34,4 @@ ones-set w h = ap ones (sym (mod-eq-of-lt h)) ∙ ones-low 64 w
 -- all words together have at most 46 times 64
 pub total-most : (marks : List ℕ) → markTotal marks ≤ wordLimit * 64
 unfolding markTotal
-total-most marks =
-    subst (λ (k : ℕ). sum wordLimit (λ w. setPositions (cell marks w)) ≤ k) (sum-const wordLimit 64) (sum-mono wordLimit (λ w _. set-most (cell marks w)))
+total-most marks = sum-most wordLimit 64 (λ w _. set-most (cell marks w))

@@ -1,4 +1,4 @@
-// Leaves over words of marks, 64 positions each: a position asked, set, and the set ones counted.
+// Leaves over words of marks: one bit asked, one bit set, and the ones counted, of a word and of all words.
 ghost use mathlib.Core.Bool.{_&&_, _||_};
 ghost use mathlib.Core.Path.{_≡_};
 ghost use Prim.Native.Nat.{ℕ, _<_};

@@ -162,12 +162,16 @@ fn words() {
     show_end();
 }
 
-fn main() {
-    written();
-    refused();
+fn other_lengths() {
     rises_short();
     byte_short();
     byte_more();
+}
+
+fn main() {
+    written();
+    refused();
+    other_lengths();
     named();
     words();
 }

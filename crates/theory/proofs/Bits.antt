@@ -1,15 +1,20 @@
 -- The bits of a word. Assumes nothing.
-use Prim.Native.Nat.{ℕ, _/_, _^_, _≤_, _<_}
-use mathlib.Core.Path.{subst}
+use Prim.Native.Nat.{ℕ, zero, suc, _/_, _^_, _≤_, _<_}
 use native.Mathlib.Nat.{mod-lt, zero-lt-suc, le-of-suc-le-suc}
-use Rattle.model.specs.Numbers.{sum, bit, setPositions}
-use Rattle.theory.proofs.Sums.{sum-mono, sum-const}
+use native.Mathlib.Omega.{arith}
+use Rattle.model.specs.Numbers.{bit, setPositions}
+use Rattle.theory.proofs.Sums.{sum-most}
 
--- a bit is 0 or 1
+-- a bit is 0 or 1, and what holds of both holds of it
 pub bit-lt : (w k : ℕ) → bit w k < 2
 bit-lt w k = mod-lt (w / 2 ^ k) (zero-lt-suc 1)
+
+pub each-bit : (P : ℕ → Type 0) → P 0 → P 1 → (b : ℕ) → b < 2 → P b
+each-bit P p q zero h = p
+each-bit P p q (suc zero) h = q
+each-bit P p q (suc (suc b)) h = absurd (omega arith)
 
 -- at most 64 positions are set
 pub set-most : (w : ℕ) → setPositions w ≤ 64
 unfolding setPositions
-set-most w = subst (λ (k : ℕ). sum 64 (bit w) ≤ k) (sum-const 64 1) (sum-mono 64 (λ k _. le-of-suc-le-suc (bit-lt w k)))
+set-most w = sum-most 64 1 (λ k _. le-of-suc-le-suc (bit-lt w k))

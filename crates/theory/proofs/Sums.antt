@@ -39,6 +39,10 @@ pub sum-const : (n a : ℕ) → sum n (λ i. a) ≡ n * a
 sum-const zero a = sym (zero-mul a)
 sum-const (suc n) a = let e = sum-const n a in omega arith
 
+-- terms of at most b
+pub sum-most : (n b : ℕ) {f : ℕ → ℕ} → ((i : ℕ) → i < n → f i ≤ b) → sum n f ≤ n * b
+sum-most n b {f} p = subst (λ (k : ℕ). sum n f ≤ k) (sum-const n b) (sum-mono n {f = f} {g = λ i. b} p)
+
 pub sum-scale : (n a : ℕ) (f : ℕ → ℕ) → sum n (λ i. a * f i) ≡ a * sum n f
 sum-scale zero a f = omega arith
 sum-scale (suc n) a f = let e = sum-scale n a f in omega arith

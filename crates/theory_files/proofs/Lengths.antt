@@ -1,7 +1,7 @@
 -- No accepted file exceeds 12,643 bytes: each record names a cell of its own. Assumes nothing.
 use mathlib.Core.Bool.{Bool, true, false, _&&_, cond, false≢true}
 use mathlib.Core.List.{List, [], _∷_}
-use mathlib.Core.Path.{_≡_, refl, ap, subst}
+use mathlib.Core.Path.{_≡_, refl, ap}
 use Prim.Native.Nat.{ℕ, zero, suc, _+_, _*_, _≤_}
 use native.Mathlib.Nat.{mul-le-mul-left}
 use native.Mathlib.Omega.{arith}
@@ -11,10 +11,10 @@ use lib.ListN.{length}
 use Rattle.model.specs.Numbers.{sum, cell}
 use Rattle.model.specs.Table.{sectorLimit, fewSectors}
 use Rattle.model.specs.File.{Entry, kindAt, nextAt, wholeAt, insideAt, entryAt, namedBefore, Reading, walk, reading, fileLimit, wordLimit}
-use Rattle.theory.proofs.Sums.{sum-mono, sum-const}
+use Rattle.theory.proofs.Sums.{sum-mono, sum-most}
 use Rattle.theory.proofs.Lists.{and-true, from-one}
 use Rattle.theory_files.proofs.RecordKinds.{wordBytes, Taken, taken}
-use Rattle.theory_files.proofs.Counts.{indicator-most, place, count, tally, tally-more}
+use Rattle.theory_files.proofs.Counts.{indicator-most, place, tally, tally-more}
 
 -- ---- the bytes that the named cells take
 abbrev pub weight : List Entry → ℕ
@@ -25,7 +25,7 @@ unfolding tally
 weight-most es =
     sum-mono wordLimit (λ w _.
     mul-le-mul-left (wordBytes w)
-    (subst (λ (k : ℕ). count sectorLimit es w ≤ k) (sum-const sectorLimit 1) (sum-mono sectorLimit (λ p _. indicator-most (namedBefore es (place w p))))))
+    (sum-most sectorLimit 1 (λ p _. indicator-most (namedBefore es (place w p)))))
 
 -- ---- what the reader has seen of a record when it takes it
 abbrev accepted : Reading → Bool

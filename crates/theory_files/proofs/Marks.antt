@@ -1,8 +1,8 @@
 -- The ones of the mark words count the named cells. Assumes nothing.
 use mathlib.Core.List.{List, [], _∷_}
 use mathlib.Core.Path.{_≡_, refl, sym, ap, _∙_, subst}
-use Prim.Native.Nat.{ℕ, zero, suc, _≤_, _<_}
-use native.Mathlib.Nat.{one-mul, not-suc-le-zero, le-of-suc-le-suc}
+use Prim.Native.Nat.{ℕ, suc, _≤_, _<_}
+use native.Mathlib.Nat.{one-mul}
 use native.Mathlib.Numerals.{add-one}
 use native.Mathlib.Omega.{arith}
 use lib.Dec.{eqb}
@@ -11,16 +11,14 @@ use Rattle.model.specs.Numbers.{cell, bit, setPositions}
 use Rattle.model.specs.Table.{sectorLimit}
 use Rattle.model.specs.File.{Entry, namedBefore, marked, markTotal, wordLimit, Reading, reading}
 use Rattle.theory.proofs.Sums.{sum-cong}
-use Rattle.theory.proofs.Bits.{bit-lt}
+use Rattle.theory.proofs.Bits.{bit-lt, each-bit}
 use Rattle.theory_files.specs.Files.{inputLimit}
 use Rattle.theory_files.proofs.Counts.{indicator, place, count, tally, tally-more}
 use Rattle.theory_files.proofs.Readings.{AllWithin, Distinct, Answered, reading-answered}
 
 -- a bit that is set is 1, and one that is not is 0
 bit-indicator : (b : ℕ) → b < 2 → b ≡ indicator (eqb b 1)
-bit-indicator zero h = refl
-bit-indicator (suc zero) h = refl
-bit-indicator (suc (suc b)) h = absurd (not-suc-le-zero (le-of-suc-le-suc (le-of-suc-le-suc h)))
+bit-indicator = each-bit (λ b. b ≡ indicator (eqb b 1)) refl refl
 
 -- each named cell counts once
 tally-ones : (n : ℕ) → n ≤ sectorLimit → (es : List Entry) → AllWithin n es → Distinct es → tally 64 (λ _. 1) es ≡ length es

@@ -16,7 +16,7 @@ use Rattle.model.specs.Calls.{matrixChecks, productionReport, priceReport, impl
 use Rattle.model.specs.Promises.{AcceptedMatrix, Distinguishes, Accurate, AccuratePrices, Returns, NotAbove}
 use Rattle.model.specs.Contracts.{Produced, Priced, Implied}
 use Rattle.theory_rounds.specs.Bounds.{sumLimit}
-use Rattle.theory.proofs.Sums.{sum-mono, sum-const, sum-part, sum-cell, largest-le, largest-cell}
+use Rattle.theory.proofs.Sums.{sum-most, sum-part, sum-cell, largest-le, largest-cell}
 use Rattle.theory_rounds.proofs.Gauge.{total-gauge, largest-gauge}
 use Rattle.theory_rounds.proofs.Rounds.{equal-starts, settles-fixed, settles-length, lowest, implied-cell, forward-back}
 use Rattle.theory_rounds.proofs.Accuracy.{not-above, lacks-less, rounds-bounded, weighted-bounded}
@@ -48,7 +48,7 @@ module _ {n : ℕ} {d : List ℕ} (A : AcceptedMatrix n d) where
   -- ---- no sum of a round leaves 64 bits
   module _ (s : List ℕ) (small : (i : ℕ) → i < n → cell s i ≤ demandLimit) where
     total-small : sum n (cell s) ≤ sectorLimit * demandLimit
-    total-small = let few = A .few in omega (arith, sum-mono n small, sum-const n demandLimit)
+    total-small = let few = A .few in omega (arith, sum-most n demandLimit small)
 
     production-fits : (k i : ℕ) → i < n → weighted n (at n d) (cell (rounds n (at n d) s k)) i ≤ sumLimit
     production-fits k i h =
