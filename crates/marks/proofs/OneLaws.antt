@@ -11,6 +11,7 @@ use Rattle.model.specs.File.{markTotal, wordLimit}
 use Rattle.theory.proofs.Sums.{sum-most}
 use Rattle.theory.proofs.Bits.{bit-lt, each-bit, set-most}
 
+-- a bit counts itself
 ones-bit : (b : ℕ) → b < 2 → ones b ≡ b
 unfolding ones
 ones-bit = each-bit (λ b. ones b ≡ b) refl refl
@@ -27,6 +28,7 @@ ones-low (suc k) w =
     ∙ ap (λ (n : ℕ). ones (w % 2 ^ k) + n) (ones-bit (bit w k) (bit-lt w k))
     ∙ ap (λ (n : ℕ). n + bit w k) (ones-low k w)
 
+-- and all of a word's
 pub ones-set : (w : ℕ) → w < 2 ^ 64 → ones w ≡ setPositions w
 unfolding setPositions
 ones-set w h = ap ones (sym (mod-eq-of-lt h)) ∙ ones-low 64 w

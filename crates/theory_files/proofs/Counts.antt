@@ -11,6 +11,7 @@ use Rattle.model.specs.Numbers.{sum}
 use Rattle.model.specs.File.{Entry, namedBefore, wordLimit}
 use Rattle.theory.proofs.Sums.{sum-cong, sum-raised}
 
+-- 1 where a test passes, 0 where it fails
 abbrev pub indicator : Bool → ℕ
 indicator true = 1
 indicator false = 0
@@ -19,6 +20,7 @@ pub indicator-most : (b : Bool) → indicator b ≤ 1
 indicator-most true = le-refl 1
 indicator-most false = omega arith
 
+-- a cell by its word and its position
 abbrev pub place : ℕ → ℕ → Entry
 place w p = record { word = w; position = p; amount = 0 }
 
