@@ -27,7 +27,7 @@ abbrev pub Distinct : List Entry → Type 0
 Distinct [] = Unit {0}
 Distinct (e ∷ es) = (namedBefore es e ≡ false) × Distinct es
 
--- with places up to `most`
+-- a refusal with a place up to `most`, or 1 to 40 sectors and such cells
 abbrev pub Answered : ℕ → Reading → Type 0
 Answered most (Reading.refused number place) = (number ≤ 15) × (place ≤ most)
 Answered most (Reading.table n es) = (1 ≤ n) × (n ≤ sectorLimit) × AllWithin n es × Distinct es
