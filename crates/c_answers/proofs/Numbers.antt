@@ -3,21 +3,24 @@
 use mathlib.Core.Bool.{Bool, true, false, _&&_, cond}
 use mathlib.Core.List.{List, [], _∷_, _++_, map}
 use mathlib.Core.Path.{_≡_, refl, sym, subst⁻¹}
-use Prim.Native.Nat.{ℕ, zero, suc, _+_, _≤_}
+use Prim.Native.Nat.{ℕ, _+_, _≤_}
 use native.Mathlib.Omega.{arith}
 use borrow.Author.Tests.{ne-eqb, leb-true}
 use lib.Dec.{eqb, leb, ltb}
 use lib.ListN.{length}
-use Rattle.model.specs.Numbers.{at, cell, first, transposed}
-use Rattle.model.specs.Table.{Table, fewSectors}
+use Rattle.model.specs.Numbers.{at, first, transposed}
+use Rattle.model.specs.Table.{Table}
 use Rattle.model.specs.Rounds.{settling, inverseRounds}
 use Rattle.model.specs.Checks.{Report, reportRead, reportTold, Check, amountLimit, balanceChecks, countedOn, bounded, refuses, verdict, columnSums, columnsSettle, demandLeft, demandLimit, inducedAmounts, lengths, productionTotal, riseLimit, single, size}
 use Rattle.model.specs.Calls.{coefficientsReport, domesticCoefficients, impliedReport, inducedReport, inverseReport, matrixChecks, priceReport, productionReport, settlingChecks, tableChecks}
-use Rattle.model.specs.Contracts.{Derived, Produced, Priced, Implied, Induced, Inverted, Slices, FileRead, FileWritten, tableFrom, PagePrinted}
-use Rattle.model.specs.File.{Entry, Reading, answerOf, called, entryAt, fits, insideAt, kindAt, namedBefore, nextAt, reading, walk, wholeAt}
+use Rattle.model.specs.Contracts.{Derived, Produced, Priced, Implied, Induced, Inverted, Slices, readingInto, FileRead, FileWritten, tableFrom, PagePrinted}
+use Rattle.model.specs.File.{Reading, answerOf}
 use Rattle.model.specs.Writer.{written, writerChecks, writerReport}
 use Rattle.model.specs.Page.{page, pageLimit, pageReport}
 use Rattle.theory.proofs.Lists.{and-true}
+use Rattle.theory_files.specs.Files.{inputLimit}
+use Rattle.theory_files.proofs.Readings.{Answered}
+use Rattle.theory_files.proofs.Beyond.{called-answered}
 use Rattle.c_answers.specs.Told.{Told}
 
 -- a report that is accepted exactly where its number is 0
@@ -80,39 +83,13 @@ induced-number n a m v F y lent =
     let columns = length m ∷ length v ∷ length F ∷ length y ∷ lent in
     numbered (size n ∷ lengths n (length a ∷ []) columns ∷ inducedAmounts a m v F ++ (productionTotal n y ∷ [])) [] refl
 
--- ---- the reader: a file is accepted exactly where its number is 0
-pub record NumberedRead (o : Reading) : Type 0 where
-  pub numbered : Numbered (reportRead (answerOf o))
+-- ---- the reader
+answered-number : (o : Reading) (most : ℕ) → Answered most o → Numbered (reportRead (answerOf o))
+answered-number (Reading.refused q p) most a = sym (ne-eqb q 0 (λ e. omega (arith, a .0)))
+answered-number (Reading.table n es) most a = refl
 
-refusal : (q p : ℕ) → 1 ≤ q → NumberedRead (Reading.refused q p)
-refusal q p h = record { numbered = sym (ne-eqb q 0 (λ e. omega arith)) }
-
-accepted : (n : ℕ) (es : List Entry) → NumberedRead (Reading.table n es)
-accepted n es = record { numbered = refl }
-
-either : (b : Bool) {o p : Reading} → NumberedRead o → NumberedRead p → NumberedRead (cond b o p)
-either true h k = h
-either false h k = k
-
-walk-number : (fuel : ℕ) (s : List ℕ) (n : ℕ) (es : List Entry) (at : ℕ) → NumberedRead (walk fuel s n es at)
-unfolding walk
-walk-number zero s n es at = refusal 15 (length s) (omega arith)
-walk-number (suc fuel) s n es at =
-    let fresh = either (namedBefore es (entryAt s at)) (refusal 14 at (omega arith)) (walk-number fuel s n (entryAt s at ∷ es) (nextAt s at)) in
-    let inside = either (insideAt s at n) fresh (refusal 13 at (omega arith)) in
-    let end = either (eqb (at + 1) (length s)) (accepted n es) (refusal 15 (at + 1) (omega arith)) in
-    let body = either (eqb (kindAt s at) 8) end inside in
-    let first = either (eqb (kindAt s at) 1) (refusal 12 at (omega arith)) body in
-    let whole = either (wholeAt s at) first (refusal 11 at (omega arith)) in
-    either (leb (length s) at) (refusal 15 (length s) (omega arith)) whole
-
-pub read-number : (x : ℕ) (columns : List ℕ) (marks : ℕ) (s : List ℕ) → NumberedRead (called x columns marks s)
-unfolding called reading
-read-number x columns marks s =
-    let n = cell s 1 in
-    let sized = either (eqb (kindAt s 0) 1 && fewSectors n) (walk-number (length s) s n [] 2) (refusal 12 0 (omega arith)) in
-    let whole = either (wholeAt s 0) sized (refusal 11 0 (omega arith)) in
-    either (fits x columns marks) (either (eqb (length s) 0) (refusal 15 0 (omega arith)) whole) (refusal 2 0 (omega arith))
+pub read-number : (file : List ℕ) (s₀ : Slices) (marks₀ : List ℕ) → Numbered (reportRead (answerOf (readingInto file s₀ marks₀)))
+read-number file s₀ marks₀ = answered-number (readingInto file s₀ marks₀) inputLimit (called-answered _ _ _ file)
 
 -- ---- the writer
 pub written-number : (n : ℕ) (s : Slices) (file : ℕ) → Numbered (writerReport (tableFrom n s) file)
@@ -155,7 +132,7 @@ module _ {number place : ℕ} {counts : List ℕ} where
 
     pub read-told : {file marks₀ marks : List ℕ} {s₀ s : Slices} → FileRead file s₀ marks₀ r s marks
         → FileRead file s₀ marks₀ (reportTold number place counts) s marks
-    read-told {file} made = rw (as-told r told (made .answer) (read-number _ _ _ file .numbered)) made
+    read-told {file} {marks₀} {marks} {s₀} made = rw (as-told r told (made .answer) (read-number file s₀ marks₀)) made
 
     pub written-told : {n : ℕ} {s : Slices} {file₀ file : List ℕ} → FileWritten n s file₀ r file → FileWritten n s file₀ (reportTold number place counts) file
     written-told {n} {s} made = rw (as-told r told (made .answer) (written-number n s _)) made

@@ -12,7 +12,7 @@ use lib.Dec.{eqb, lit<}
 use lib.ListN.{length, set, replicate}
 use lib.Pow.{pow-lt, pow-add, shl-shr, shl-exact}
 use lib.Seq.{getD-set-same, getD-set-other}
-use Rattle.model.specs.Numbers.{cell, bit}
+use Rattle.model.specs.Numbers.{cell, bit, wordPositions}
 use Rattle.model.specs.File.{marked}
 use Rattle.theory.proofs.Lists.{cell-zeros}
 use Rattle.theory.proofs.Bits.{bit-lt, each-bit}
@@ -50,7 +50,7 @@ bit-other p k h = go (decLt p k) (decLt k p)
     go (no a) (no b) = absurd (h (omega arith))
 
 -- marks with the bit of a cell set
-module _ (marks : List ℕ) (l p : ℕ) (hl : l < length marks) (hp : p < 64) where
+module _ (marks : List ℕ) (l p : ℕ) (hl : l < length marks) (hp : p < wordPositions) where
   abbrev word : ℕ
   word = cell marks l
 

@@ -6,7 +6,7 @@ use native.Mathlib.Nat.{mod-lt, mod-one, mod-eq-of-lt, add-comm}
 use native.Mathlib.Numerals.{one-add}
 use lib.Count.{ones, ones-cat}
 use lib.Pow.{pow-pos, mod-pow-add}
-use Rattle.model.specs.Numbers.{sum, cell, bit, setPositions}
+use Rattle.model.specs.Numbers.{sum, cell, bit, wordPositions, setPositions}
 use Rattle.model.specs.File.{markTotal, wordLimit}
 use Rattle.theory.proofs.Sums.{sum-most}
 use Rattle.theory.proofs.Bits.{bit-lt, each-bit, set-most}
@@ -29,11 +29,11 @@ ones-low (suc k) w =
     ∙ ap (λ (n : ℕ). n + bit w k) (ones-low k w)
 
 -- and all of a word's
-pub ones-set : (w : ℕ) → w < 2 ^ 64 → ones w ≡ setPositions w
+pub ones-set : (w : ℕ) → w < 2 ^ wordPositions → ones w ≡ setPositions w
 unfolding setPositions
-ones-set w h = ap ones (sym (mod-eq-of-lt h)) ∙ ones-low 64 w
+ones-set w h = ap ones (sym (mod-eq-of-lt h)) ∙ ones-low wordPositions w
 
 -- all words together have at most 46 times 64
-pub total-most : (marks : List ℕ) → markTotal marks ≤ wordLimit * 64
+pub total-most : (marks : List ℕ) → markTotal marks ≤ wordLimit * wordPositions
 unfolding markTotal
-total-most marks = sum-most wordLimit 64 (λ w _. set-most (cell marks w))
+total-most marks = sum-most wordLimit wordPositions (λ w _. set-most (cell marks w))

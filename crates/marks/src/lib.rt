@@ -4,12 +4,12 @@ ghost use mathlib.Core.Path.{_≡_};
 ghost use Prim.Native.Nat.{ℕ, _<_};
 ghost use lib.Dec.{eqb};
 ghost use lib.ListN.{length};
-ghost use Rattle.model.specs.Numbers.{setPositions};
+ghost use Rattle.model.specs.Numbers.{wordPositions, setPositions};
 ghost use Rattle.model.specs.File.{marked, markTotal, wordLimit};
 
 // Was the cell named before?
 pub fn is_marked(marks: &[u64], word: usize, position: usize) -> bool
-    requires { ⌜ (word < length (now marks)) × (position < 64) ⌝ }
+    requires { ⌜ (word < length (now marks)) × (position < wordPositions) ⌝ }
     ensures { λ r. ⌜ r ≡ marked (now (marks .entry)) word position ⌝ }
 {
     (marks[word] >> position) % 2 == 1
@@ -17,7 +17,7 @@ pub fn is_marked(marks: &[u64], word: usize, position: usize) -> bool
 
 // Marks a cell, and no other.
 pub fn mark(marks: &mut [u64], word: usize, position: usize)
-    requires { ⌜ (word < length (now marks)) × (position < 64) ⌝ }
+    requires { ⌜ (word < length (now marks)) × (position < wordPositions) ⌝ }
     ensures { λ _. ⌜ ((i k : ℕ) → marked (now (marks .exit)) i k ≡ (eqb word i && eqb position k || marked (now (marks .entry)) i k)) ⌝ }
 {
     let before = marks[word];

@@ -83,6 +83,9 @@ oriented false c = c
 abbrev pub bit : ℕ → ℕ → ℕ
 bit word position = word / 2 ^ position % 2
 
--- how many of a word's 64 positions are set: document 02, ticket 2, "the number of its set positions"
+-- the positions of a 64-bit word, and how many of them are set: document 02, ticket 2, "the number of its set positions"
+abbrev pub wordPositions : ℕ
+wordPositions = 64
+
 unfoldable pub setPositions : ℕ → ℕ
-setPositions word = sum 64 (bit word)
+setPositions word = sum wordPositions (bit word)

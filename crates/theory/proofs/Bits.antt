@@ -2,7 +2,7 @@
 use Prim.Native.Nat.{ℕ, zero, suc, _/_, _^_, _≤_, _<_}
 use native.Mathlib.Nat.{mod-lt, zero-lt-suc, le-of-suc-le-suc}
 use native.Mathlib.Omega.{arith}
-use Rattle.model.specs.Numbers.{bit, setPositions}
+use Rattle.model.specs.Numbers.{bit, wordPositions, setPositions}
 use Rattle.theory.proofs.Sums.{sum-most}
 
 -- a bit is 0 or 1, and what holds of both holds of it
@@ -14,7 +14,7 @@ each-bit P p q zero h = p
 each-bit P p q (suc zero) h = q
 each-bit P p q (suc (suc b)) h = absurd (omega arith)
 
--- at most 64 positions are set
-pub set-most : (w : ℕ) → setPositions w ≤ 64
+-- at most all positions are set
+pub set-most : (w : ℕ) → setPositions w ≤ wordPositions
 unfolding setPositions
-set-most w = sum-most 64 1 (λ k _. le-of-suc-le-suc (bit-lt w k))
+set-most w = sum-most wordPositions 1 (λ k _. le-of-suc-le-suc (bit-lt w k))

@@ -73,13 +73,14 @@ column-left : (word len most : ℕ) (o : Reading) → Answered most o → Zero (
 column-left word len most (Reading.refused q p) a = λ k h. cell-zeros len k
 column-left word len most (Reading.table n es) a = column-beyond n word es (a .2)
 
-called-answered : (x : ℕ) (columns : List ℕ) (marks : ℕ) (s : List ℕ) → Answered inputLimit (called x columns marks s)
+-- the call may be refused by 2 too
+pub called-answered : (x : ℕ) (columns : List ℕ) (marks : ℕ) (s : List ℕ) → Answered inputLimit (called x columns marks s)
 unfolding called
 called-answered x columns marks s = split (fits x columns marks)
   where
     split : (b : Bool) → Answered inputLimit (cond b (reading s) (Reading.refused 2 0))
     split true = reading-answered s
-    split false = (lit≤ tt, zero-le)
+    split false = (lit≤ tt, lit≤ tt, zero-le)
 
 -- "Cells beyond n are 0", whatever the file, the slices and their lengths
 pub beyond : (file : List ℕ) (s₀ : Slices) (marks₀ : List ℕ) (s : Slices) → Delivered (readingInto file s₀ marks₀) s₀ s

@@ -25,7 +25,7 @@ abbrev pub place : ℕ → ℕ → Entry
 place w p = record { word = w; position = p; amount = 0 }
 
 -- the amount of a cell does not matter
-pub named-place : (es : List Entry) (e : Entry) → namedBefore es (place (e .word) (e .position)) ≡ namedBefore es e
+named-place : (es : List Entry) (e : Entry) → namedBefore es (place (e .word) (e .position)) ≡ namedBefore es e
 named-place [] e = refl
 named-place (f ∷ es) e = ap (λ (b : Bool). eqb (f .word) (e .word) && eqb (f .position) (e .position) || b) (named-place es e)
 

@@ -7,7 +7,7 @@ use native.Mathlib.Numerals.{add-one}
 use native.Mathlib.Omega.{arith}
 use lib.Dec.{eqb}
 use lib.ListN.{length}
-use Rattle.model.specs.Numbers.{cell, bit, setPositions}
+use Rattle.model.specs.Numbers.{cell, bit, wordPositions, setPositions}
 use Rattle.model.specs.Table.{sectorLimit}
 use Rattle.model.specs.File.{Entry, namedBefore, marked, markTotal, wordLimit, Reading, reading}
 use Rattle.theory.proofs.Sums.{sum-cong}
@@ -21,12 +21,12 @@ bit-indicator : (b : ℕ) → b < 2 → b ≡ indicator (eqb b 1)
 bit-indicator = each-bit (λ b. b ≡ indicator (eqb b 1)) refl refl
 
 -- each named cell counts once
-tally-ones : (n : ℕ) → n ≤ sectorLimit → (es : List Entry) → AllWithin n es → Distinct es → tally 64 (λ _. 1) es ≡ length es
+tally-ones : (n : ℕ) → n ≤ sectorLimit → (es : List Entry) → AllWithin n es → Distinct es → tally wordPositions (λ _. 1) es ≡ length es
 unfolding tally
 tally-ones n few [] w d = refl
 tally-ones n few (e ∷ es) w d =
     let p = w .0 .place in
-    tally-more e es (d .0) 64 (omega arith) (λ _. 1) (w .0 .known) ∙ add-one _ ∙ ap suc (tally-ones n few es (w .1) (d .1))
+    tally-more e es (d .0) wordPositions (omega arith) (λ _. 1) (w .0 .known) ∙ add-one _ ∙ ap suc (tally-ones n few es (w .1) (d .1))
 
 -- Theorem, for the reader: where the marks are those of the cells that an accepted file names, their ones are as many as these cells
 pub named-total : (s : List ℕ) (n : ℕ) (es : List Entry) → reading s ≡ Reading.table n es
@@ -35,7 +35,7 @@ unfolding markTotal setPositions marked tally
 named-total s n es r marks same =
     let a : Answered inputLimit (Reading.table n es) = subst (Answered inputLimit) r (reading-answered s) in
     sum-cong wordLimit (λ w _.
-    sum-cong 64 (λ p _.
+    sum-cong wordPositions (λ p _.
     bit-indicator (bit (cell marks w) p) (bit-lt (cell marks w) p) ∙ ap indicator (same (place w p)))
-    ∙ sym (one-mul (count 64 es w)))
+    ∙ sym (one-mul (count wordPositions es w)))
     ∙ tally-ones n (a .1) es (a .2) (a .3)

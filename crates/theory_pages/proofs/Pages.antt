@@ -243,7 +243,7 @@ module _ (t : Table) (some-columns : 1 ≤ length (t .columns)) (few-columns : l
 
 -- ---- the page of a file: its own refusals have a number up to 15, and a place up to 12,649
 reading-fits : (r : Reading) → Answered inputLimit r → length (readingPage r) ≤ pageLimit
-reading-fits (Reading.refused number place) p = refusal-fits number place (omega (arith, p .0, p .1))
+reading-fits (Reading.refused number place) p = refusal-fits number place (omega (arith, p .1, p .2))
 reading-fits (Reading.table n es) p = table-fits (tableRead n es) (lit≤ tt) (lit≤ tt)
 
 -- Theorem, for the reader: no page is longer; a buffer of that length holds every page, whatever the numbers of s

@@ -5,7 +5,7 @@ use Prim.Native.Nat.{ℕ, _+_, _*_, _≤_, _-_}
 use native.Mathlib.Omega.{arith}
 use borrow.Author.Needs.{needs}
 use lib.ListN.{length}
-use Rattle.model.specs.Numbers.{sum, cell, setPositions}
+use Rattle.model.specs.Numbers.{sum, cell, wordPositions, setPositions}
 use Rattle.model.specs.File.{markTotal, wordLimit}
 use Rattle.theory.proofs.Sums.{sum-more, sum-room, sum-done}
 use Rattle.marks.proofs.OneLaws.{total-most}
@@ -29,7 +29,7 @@ abbrev marks-of : tie.At-loop Inv-loop μ-loop → List ℕ
 marks-of p = p .before .before .args .marks .now
 
 -- with the ones of its word the total is at most that of all
-room : (c : tie.After-ones Inv-loop μ-loop) → let p = head c in p .loop .total + counts (marks-of p) (p .loop .word) ≤ wordLimit * 64
+room : (c : tie.After-ones Inv-loop μ-loop) → let p = head c in p .loop .total + counts (marks-of p) (p .loop .word) ≤ wordLimit * wordPositions
 unfolding markTotal
 room c =
     let p = head c in
