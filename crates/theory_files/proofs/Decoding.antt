@@ -13,8 +13,8 @@ use Rattle.model.specs.Numbers.{tabulate, cell}
 use Rattle.model.specs.File.{Entry, recordLengths, amountBytes, amountFrom, encode, encodeAll, fileOf, kindAt, isFlow, nextAt, entryAt, Reading, reading}
 use Rattle.theory.proofs.Lists.{tabulate-cong}
 use Rattle.theory_files.proofs.Encoding.{encode-flow, encode-column, encode-append}
-use Rattle.theory_files.proofs.Walks.{Next, reading-holds}
-use Rattle.theory_files.proofs.RecordKinds.{body, record-size, column-kind, taken, Taken}
+use Rattle.theory_files.proofs.Walks.{Next, accepted-holds}
+use Rattle.theory_files.proofs.RecordKinds.{body, record-size, column-kind, Taken}
 
 -- every number of a list is a byte
 abbrev pub Octets : List ℕ → Type 0
@@ -117,19 +117,16 @@ encode-more e es r =
     ap (λ (l : List ℕ). l ++ r) (ap encodeAll (reverse-cons e es) ∙ encode-append (reverse es) (e ∷ []))
     ∙ append-assoc (encodeAll (reverse es)) (encode e ++ []) r ∙ ap (λ (l : List ℕ). encodeAll (reverse es) ++ (l ++ r)) (append-nil (encode e))
 
+-- and the others follow
 abbrev Read : List ℕ → List Entry → ℕ → Type 0
 Read s es at = s ≡ 1 ∷ cell s 1 ∷ (encodeAll (reverse es) ++ drop at s)
 
 -- Theorem, for the reader: an accepted file is that of its named cells, in the order in which it names them
-abbrev OfItsCells : List ℕ → Reading → Type 0
-OfItsCells s (Reading.refused q p) = Unit {0}
-OfItsCells s (Reading.table n es) = s ≡ fileOf n (reverse es)
-
-reading-found : (s : List ℕ) → Octets s → OfItsCells s (reading s)
+pub decoded : (s : List ℕ) → Octets s → (n : ℕ) (es : List Entry) → reading s ≡ Reading.table n es → s ≡ fileOf n (reverse es)
 unfolding fileOf
-reading-found s small =
+decoded s small =
     let n = cell s 1 in
-    reading-holds s (OfItsCells s) (λ _ _ _ _ _. tt) (Read s)
+    accepted-holds s (λ n es. s ≡ fileOf n (reverse es)) (Read s)
     (λ es at i last.
     i
     ∙ ap (λ (l : List ℕ). 1 ∷ n ∷ (encodeAll (reverse es) ++ l))
@@ -141,6 +138,3 @@ reading-found s small =
     (λ first.
     let long : 0 + 2 ≤ length s = subst (λ (k : ℕ). 0 + cell recordLengths k ≤ length s) (first .kind) (body s 0 (first .whole) .1) in
     bytes-from s 2 0 long ∙ ap (λ (k : ℕ). k ∷ n ∷ drop 2 s) (first .kind))
-
-pub decoded : (s : List ℕ) → Octets s → (n : ℕ) (es : List Entry) → reading s ≡ Reading.table n es → s ≡ fileOf n (reverse es)
-decoded s small n es e = subst (OfItsCells s) e (reading-found s small)

@@ -1,7 +1,7 @@
 -- No accepted file exceeds 12,643 bytes: each record names a cell of its own. Assumes nothing.
 use mathlib.Core.Bool.{false}
 use mathlib.Core.List.{List, _∷_}
-use mathlib.Core.Path.{_≡_, subst}
+use mathlib.Core.Path.{_≡_}
 use Prim.Native.Nat.{ℕ, _+_, _*_, _≤_}
 use native.Mathlib.Nat.{mul-le-mul-left}
 use native.Mathlib.Omega.{arith}
@@ -10,8 +10,8 @@ use Rattle.model.specs.Numbers.{sum, cell}
 use Rattle.model.specs.Table.{sectorLimit}
 use Rattle.model.specs.File.{Entry, nextAt, entryAt, namedBefore, Reading, reading, fileLimit, wordLimit}
 use Rattle.theory.proofs.Sums.{sum-mono, sum-most}
-use Rattle.theory_files.proofs.RecordKinds.{wordBytes, Taken, taken}
-use Rattle.theory_files.proofs.Walks.{reading-holds}
+use Rattle.theory_files.proofs.RecordKinds.{wordBytes, Taken}
+use Rattle.theory_files.proofs.Walks.{accepted-holds}
 use Rattle.theory_files.proofs.Counts.{indicator-most, place, tally, tally-more}
 
 -- ---- the bytes that the named cells take
@@ -34,16 +34,9 @@ offset-on s es at most t fresh h =
     omega arith
 
 -- Theorem, for the reader: "No accepted file exceeds 12,643 bytes"
-abbrev Fits : List ℕ → Reading → Type 0
-Fits s (Reading.refused q p) = Unit {0}
-Fits s (Reading.table n es) = length s ≤ fileLimit
-
-reading-fits : (s : List ℕ) → Fits s (reading s)
-reading-fits s =
-    reading-holds s (Fits s) (λ _ _ _ _ _. tt) (λ es at. (cell s 1 ≤ sectorLimit) × (at ≤ 2 + weight es))
-    (λ es at i last. let limit = weight-most es in omega (arith, last .end, limit, i .1))
+pub accepted-length : (s : List ℕ) (n : ℕ) (es : List Entry) → reading s ≡ Reading.table n es → length s ≤ fileLimit
+accepted-length s =
+    accepted-holds s (λ _ _. length s ≤ fileLimit) (λ es at. (cell s 1 ≤ sectorLimit) × (at ≤ 2 + weight es))
+    (λ es at i last. omega (arith, last .end, weight-most es, i .1))
     (λ es at i next. (i .0, offset-on s es at (i .0) (next .taken) (next .new) (i .1)))
     (λ first. (first .few, omega arith))
-
-pub accepted-length : (s : List ℕ) (n : ℕ) (es : List Entry) → reading s ≡ Reading.table n es → length s ≤ fileLimit
-accepted-length s n es e = subst (Fits s) e (reading-fits s)

@@ -1,7 +1,7 @@
 -- What the walk keeps from record to record tells what a reading may be: one induction for all that is said of readings. Assumes nothing.
 use mathlib.Core.Bool.{Bool, true, false, _&&_, cond}
 use mathlib.Core.List.{List, [], _∷_}
-use mathlib.Core.Path.{_≡_, refl}
+use mathlib.Core.Path.{_≡_, refl, subst}
 use Prim.Native.Nat.{ℕ, zero, suc, _+_, _≤_}
 use native.Mathlib.Nat.{le-refl}
 use native.Mathlib.Omega.{arith}
@@ -92,3 +92,15 @@ module _ (s : List ℕ) (P : Reading → Type 0)
             let size = from-one n sectorLimit (parts .1) in
             walk-holds (size .1) len [] 2
             (starts (record { whole = whole; kind = eqb-true (kindAt s 0) 1 (parts .0); some = size .0; few = size .1 })))))
+
+-- The same of an accepted reading alone
+abbrev OfTable : (ℕ → List Entry → Type 0) → Reading → Type 0
+OfTable Q (Reading.refused number place) = Unit {0}
+OfTable Q (Reading.table n es) = Q n es
+
+pub accepted-holds :
+    (s : List ℕ) (Q : ℕ → List Entry → Type 0) (I : List Entry → ℕ → Type 0)
+    → ((es : List Entry) (at : ℕ) → I es at → Last s at → Q (cell s 1) es)
+    → ((es : List Entry) (at : ℕ) → I es at → Next s (cell s 1) es at → I (entryAt s at ∷ es) (nextAt s at))
+    → (First s (cell s 1) → I [] 2) → (n : ℕ) (es : List Entry) → reading s ≡ Reading.table n es → Q n es
+accepted-holds s Q I lasts goes-on starts n es e = subst (OfTable Q) e (reading-holds s (OfTable Q) (λ _ _ _ _ _. tt) I lasts goes-on starts)
