@@ -8,9 +8,9 @@ use file_records::position_at;
 use file_records::record_length;
 use file_records::wide;
 use file_records::word_at;
-use marks::count_marks;
 use marks::is_marked;
 use marks::mark;
+use marks::take_total;
 use model::SECTORS;
 use model::TableRead;
 ghost use mathlib.Core.List.{List, [], _∷_};
@@ -199,16 +199,6 @@ fn walk_file(file: &[u8], cells: &mut [u64], marks: &mut [u64]) -> Walked
         Walked::Refused { number, place } => Walked::Refused { number, place },
         Walked::Table { sectors } => walk(file, sectors, cells, marks),
     }
-}
-
-// How many cells are marked; the marks are 0 after it.
-fn take_total(marks: &mut [u64]) -> usize
-    requires { ⌜ length (now marks) ≡ wordLimit ⌝ }
-    ensures { λ r. ⌜ (r ≡ markTotal (now (marks .entry))) × (now (marks .exit) ≡ replicate (length (now (marks .entry))) 0) ⌝ }
-{
-    let total = count_marks(marks);
-    fill_zero(marks);
-    total
 }
 
 // The answer to a walk whose marks have this total; after a refusal the cells are 0.

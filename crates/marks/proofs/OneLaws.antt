@@ -4,6 +4,7 @@ use mathlib.Core.Path.{_≡_, refl, sym, ap, _∙_}
 use Prim.Native.Nat.{ℕ, zero, suc, _+_, _*_, _%_, _^_, _≤_, _<_}
 use native.Mathlib.Nat.{mod-lt, mod-one, mod-eq-of-lt, add-comm}
 use native.Mathlib.Numerals.{one-add}
+use native.Mathlib.Omega.{arith}
 use lib.Count.{ones, ones-cat}
 use lib.Pow.{pow-pos, mod-pow-add}
 use Rattle.model.specs.Numbers.{sum, cell, bit, wordPositions, setPositions}
@@ -32,6 +33,10 @@ ones-low (suc k) w =
 pub ones-set : (w : ℕ) → w < 2 ^ wordPositions → ones w ≡ setPositions w
 unfolding setPositions
 ones-set w h = ap ones (sym (mod-eq-of-lt h)) ∙ ones-low wordPositions w
+
+-- a count of ones fits a word
+pub ones-fit : (w : ℕ) → w < 2 ^ wordPositions → ones w < 2 ^ wordPositions
+ones-fit w h = omega (arith, ones-set w h, set-most w)
 
 -- all words together have at most 46 times 64
 pub total-most : (marks : List ℕ) → markTotal marks ≤ wordLimit * wordPositions

@@ -1,9 +1,10 @@
-// Leaves over words of marks: one bit asked, one bit set, and the ones counted, of a word and of all words.
+// Leaves over words of marks: one bit asked, one bit set, and the ones counted, of a word and of all words, which may be cleared with it.
+use cells::fill_zero;
 ghost use mathlib.Core.Bool.{_&&_, _||_};
 ghost use mathlib.Core.Path.{_≡_};
 ghost use Prim.Native.Nat.{ℕ, _<_};
 ghost use lib.Dec.{eqb};
-ghost use lib.ListN.{length};
+ghost use lib.ListN.{length, replicate};
 ghost use Rattle.model.specs.Numbers.{wordPositions, setPositions};
 ghost use Rattle.model.specs.File.{marked, markTotal, wordLimit};
 
@@ -41,4 +42,14 @@ pub fn count_marks(marks: &[u64]) -> usize
         total += ones(marks[word]);
     }
     total
+}
+
+// How many cells are marked; the marks are 0 after it.
+pub fn take_total(marks: &mut [u64]) -> usize
+    requires { ⌜ length (now marks) ≡ wordLimit ⌝ }
+    ensures { λ r. ⌜ (r ≡ markTotal (now (marks .entry))) × (now (marks .exit) ≡ replicate (length (now (marks .entry))) 0) ⌝ }
+{
+    let counted = count_marks(marks);
+    fill_zero(marks);
+    counted
 }
