@@ -20,6 +20,7 @@ pub extern "C" fn tawqeshim_read_table(
     imports: &mut [u64],
     value_added: &mut [u64],
     production: &mut [u64],
+    adjustment: &mut [u64],
     rises: &mut [u64],
     marks: &mut [u64],
     number: &mut u8,
@@ -28,9 +29,9 @@ pub extern "C" fn tawqeshim_read_table(
     named: &mut usize,
 )
     ensures { λ _. ⌜ FileRead (now (file .entry))
-        (slicesOf (now (x .entry)) (now («final_demand» .entry)) (now (exports .entry)) (now (imports .entry)) (now («value_added» .entry)) (now (production .entry)) (now (rises .entry))) (now (marks .entry))
+        (slicesOf (now (x .entry)) (now («final_demand» .entry)) (now (exports .entry)) (now (imports .entry)) (now («value_added» .entry)) (now (production .entry)) (now (adjustment .entry)) (now (rises .entry))) (now (marks .entry))
         (reportTold (now (number .exit)) (now (place .exit)) (now (sectors .exit) ∷ now (named .exit) ∷ []))
-        (slicesOf (now (x .exit)) (now («final_demand» .exit)) (now (exports .exit)) (now (imports .exit)) (now («value_added» .exit)) (now (production .exit)) (now (rises .exit))) (now (marks .exit)) ⌝ }
+        (slicesOf (now (x .exit)) (now («final_demand» .exit)) (now (exports .exit)) (now (imports .exit)) (now («value_added» .exit)) (now (production .exit)) (now (adjustment .exit)) (now (rises .exit))) (now (marks .exit)) ⌝ }
 {
     let answer = read_table(
         file,
@@ -40,6 +41,7 @@ pub extern "C" fn tawqeshim_read_table(
         imports,
         value_added,
         production,
+        adjustment,
         rises,
         marks,
     );
@@ -56,6 +58,7 @@ pub extern "C" fn tawqeshim_write_table(
     imports: &[u64],
     value_added: &[u64],
     production: &[u64],
+    adjustment: &[u64],
     rises: &[u64],
     file: &mut [u8],
     number: &mut u8,
@@ -63,7 +66,7 @@ pub extern "C" fn tawqeshim_write_table(
     length: &mut usize,
 )
     ensures { λ _. ⌜ FileWritten n
-        (slicesOf (now (x .entry)) (now («final_demand» .entry)) (now (exports .entry)) (now (imports .entry)) (now («value_added» .entry)) (now (production .entry)) (now (rises .entry)))
+        (slicesOf (now (x .entry)) (now («final_demand» .entry)) (now (exports .entry)) (now (imports .entry)) (now («value_added» .entry)) (now (production .entry)) (now (adjustment .entry)) (now (rises .entry)))
         (now (file .entry)) (reportTold (now (number .exit)) (now (place .exit)) (now (length .exit) ∷ [])) (now (file .exit)) ⌝ }
 {
     let answer = write_table(
@@ -74,6 +77,7 @@ pub extern "C" fn tawqeshim_write_table(
         imports,
         value_added,
         production,
+        adjustment,
         rises,
         file,
     );

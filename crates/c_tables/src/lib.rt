@@ -7,7 +7,7 @@ ghost use Rattle.model.specs.Table.{tableOf};
 ghost use Rattle.model.specs.Checks.{reportTold};
 ghost use Rattle.model.specs.Contracts.{Derived};
 
-// The sheets of a table. Asks 1 to 7.
+// The sheets of a table. Asks 1 to 3, 16 and 4 to 7.
 #[no_mangle]
 pub extern "C" fn tawqeshim_coefficients(
     n: usize,
@@ -17,6 +17,7 @@ pub extern "C" fn tawqeshim_coefficients(
     imports: &[u64],
     value_added: &[u64],
     production: &[u64],
+    adjustment: &[u64],
     a: &mut [u64],
     v: &mut [u64],
     m: &mut [u64],
@@ -25,7 +26,7 @@ pub extern "C" fn tawqeshim_coefficients(
     number: &mut u8,
     place: &mut usize,
 )
-    ensures { λ _. ⌜ Derived (tableOf n (now (x .entry)) (now («final_demand» .entry) ∷ now (exports .entry) ∷ now (imports .entry) ∷ now («value_added» .entry) ∷ now (production .entry) ∷ []))
+    ensures { λ _. ⌜ Derived (tableOf n (now (x .entry)) (now («final_demand» .entry) ∷ now (exports .entry) ∷ now (imports .entry) ∷ now («value_added» .entry) ∷ now (production .entry) ∷ now (adjustment .entry) ∷ []))
         (now (a .entry)) (now (v .entry)) (now (m .entry)) (now (d .entry)) (now (f .entry)) (reportTold (now (number .exit)) (now (place .exit)) [])
         (now (a .exit)) (now (v .exit)) (now (m .exit)) (now (d .exit)) (now (f .exit)) ⌝ }
 {
@@ -37,6 +38,7 @@ pub extern "C" fn tawqeshim_coefficients(
         imports,
         value_added,
         production,
+        adjustment,
         a,
         v,
         m,

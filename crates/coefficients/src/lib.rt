@@ -15,7 +15,7 @@ ghost use Rattle.model.specs.Checks.{report, verdict};
 ghost use Rattle.model.specs.Contracts.{Derived};
 ghost use Rattle.model.specs.Calls.{coefficientsReport, domesticCoefficients, domesticDemands, importCoefficients, inputCoefficients, tableChecks, valueAddedCoefficients};
 
-// Questions 1 to 6, with the lengths of the outputs.
+// Questions 1 to 3, 16 and 4 to 6, with the lengths of the outputs.
 fn check_called(
     n: usize,
     x: &[u64],
@@ -24,13 +24,14 @@ fn check_called(
     imports: &[u64],
     value_added: &[u64],
     production: &[u64],
+    adjustment: &[u64],
     a_len: usize,
     v_len: usize,
     m_len: usize,
     d_len: usize,
     f_len: usize,
 ) -> Answer
-    ensures { λ r. ⌜ report r ≡ verdict (tableChecks (tableOf n (now (x .entry)) (now («final_demand» .entry) ∷ now (exports .entry) ∷ now (imports .entry) ∷ now («value_added» .entry) ∷ now (production .entry) ∷ [])) («a_len» ∷ «d_len» ∷ []) («v_len» ∷ «m_len» ∷ «f_len» ∷ [])) [] ⌝ }
+    ensures { λ r. ⌜ report r ≡ verdict (tableChecks (tableOf n (now (x .entry)) (now («final_demand» .entry) ∷ now (exports .entry) ∷ now (imports .entry) ∷ now («value_added» .entry) ∷ now (production .entry) ∷ now (adjustment .entry) ∷ [])) («a_len» ∷ «d_len» ∷ []) («v_len» ∷ «m_len» ∷ «f_len» ∷ [])) [] ⌝ }
 {
     let matrices = [x.len(), a_len, d_len];
     let lent = [
@@ -39,6 +40,7 @@ fn check_called(
         imports.len(),
         value_added.len(),
         production.len(),
+        adjustment.len(),
         v_len,
         m_len,
         f_len,
@@ -51,12 +53,13 @@ fn check_called(
         imports,
         value_added,
         production,
+        adjustment,
         &matrices,
         &lent,
     )
 }
 
-// Questions 1 to 7; where they are passed, the sheets.
+// All questions; where they are passed, the sheets.
 fn fill_sheets(
     n: usize,
     x: &[u64],
@@ -65,6 +68,7 @@ fn fill_sheets(
     imports: &[u64],
     value_added: &[u64],
     production: &[u64],
+    adjustment: &[u64],
     a: &mut [u64],
     v: &mut [u64],
     m: &mut [u64],
@@ -72,7 +76,7 @@ fn fill_sheets(
     f: &mut [u64],
 ) -> Answer
     ensures { λ q. ⌜ (
-        let t = tableOf n (now (x .entry)) (now («final_demand» .entry) ∷ now (exports .entry) ∷ now (imports .entry) ∷ now («value_added» .entry) ∷ now (production .entry) ∷ []) in
+        let t = tableOf n (now (x .entry)) (now («final_demand» .entry) ∷ now (exports .entry) ∷ now (imports .entry) ∷ now («value_added» .entry) ∷ now (production .entry) ∷ now (adjustment .entry) ∷ []) in
         let r = report q in
         (r ≡ coefficientsReport t (length (now (a .entry)) ∷ length (now (d .entry)) ∷ []) (length (now (v .entry)) ∷ length (now (m .entry)) ∷ length (now (f .entry)) ∷ []))
         × (r .accepted ≡ true →
@@ -87,6 +91,7 @@ fn fill_sheets(
         imports,
         value_added,
         production,
+        adjustment,
         a.len(),
         v.len(),
         m.len(),
@@ -99,11 +104,11 @@ fn fill_sheets(
     fill_inputs(n, x, production, a);
     fill_shares(n, value_added, production, v);
     fill_import_shares(n, x, final_demand, imports, m);
-    finish(n, a, m, final_demand, exports, d, f)
+    finish(n, a, m, final_demand, exports, adjustment, d, f)
 }
 
 // The input coefficients a, value shares v, import shares m, domestic coefficients d and demand for domestic goods f of a table. Columns are
-// F, E, M, V and X of the paper, in its order. What it promises is `Derived`.
+// F, E, M, V, X and G of the paper, in its order. What it promises is `Derived`.
 pub fn coefficients(
     n: usize,
     x: &[u64],
@@ -112,13 +117,14 @@ pub fn coefficients(
     imports: &[u64],
     value_added: &[u64],
     production: &[u64],
+    adjustment: &[u64],
     a: &mut [u64],
     v: &mut [u64],
     m: &mut [u64],
     d: &mut [u64],
     f: &mut [u64],
 ) -> Answer
-    ensures { λ r. ⌜ Derived (tableOf n (now (x .entry)) (now («final_demand» .entry) ∷ now (exports .entry) ∷ now (imports .entry) ∷ now («value_added» .entry) ∷ now (production .entry) ∷ []))
+    ensures { λ r. ⌜ Derived (tableOf n (now (x .entry)) (now («final_demand» .entry) ∷ now (exports .entry) ∷ now (imports .entry) ∷ now («value_added» .entry) ∷ now (production .entry) ∷ now (adjustment .entry) ∷ []))
         (now (a .entry)) (now (v .entry)) (now (m .entry)) (now (d .entry)) (now (f .entry)) (report r)
         (now (a .exit)) (now (v .exit)) (now (m .exit)) (now (d .exit)) (now (f .exit)) ⌝ }
 {
@@ -130,6 +136,7 @@ pub fn coefficients(
         imports,
         value_added,
         production,
+        adjustment,
         a,
         v,
         m,

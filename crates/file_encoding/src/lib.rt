@@ -33,7 +33,7 @@ fn column_kind(column: usize) -> u8
     requires { ⌜ column < length columnKinds ⌝ }
     ensures { λ r. ⌜ r ≡ cell columnKinds column ⌝ }
 {
-    let kinds = [3u8, 4, 5, 6, 7, 9];
+    let kinds = [3u8, 4, 5, 6, 7, 9, 10];
     kinds[column]
 }
 

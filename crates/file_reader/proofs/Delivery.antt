@@ -11,7 +11,7 @@ use lib.Dec.{eqb}
 use lib.ListN.{take, drop, replicate}
 use Rattle.model.specs.Numbers.{all}
 use Rattle.model.specs.Table.{sectorLimit, sheetLimit}
-use Rattle.model.specs.File.{Reading, reading, fits, called, flowsRead, columnRead, columnWord, wordLimit}
+use Rattle.model.specs.File.{Reading, reading, fits, called, flowsRead, columnRead, kindPlace, columnWord, wordLimit}
 use Rattle.theory.specs.Slices.{Each}
 use Rattle.theory.proofs.Lists.{and-true, each-equal}
 use Rattle.file_walk.specs.Steps.{Held}
@@ -64,4 +64,4 @@ module _ (o : Reading) (cells : List ℕ) (h : Held o cells) where
 
   pub put-column : (c : ℕ) → columnWord c < wordLimit → (len : ℕ) (out : List ℕ) → (len ≡ sectorLimit) ⊎ (o ≡ Reading.refused 2 0)
       → Put cells (columnWord c * sectorLimit) sectorLimit len out → out ≡ columnRead (columnWord c) len o
-  put-column c known = put (columnRead (columnWord c)) (λ len q p. refl) (columnWord c * sectorLimit) sectorLimit (h .columns (columnWord c) (le-add-right sectorLimit c) known)
+  put-column c known = put (columnRead (columnWord c)) (λ len q p. refl) (columnWord c * sectorLimit) sectorLimit (h .columns (columnWord c) (le-add-right sectorLimit (kindPlace c)) known)

@@ -1,8 +1,9 @@
-// The reader of a table file. The walk works over cells of its own, one slice of 1,840; they are delivered at the end.
+// The reader of a table file. The walk works over cells of its own, one slice of 1,880; they are delivered at the end.
 use cells::copy_cells;
 use cells::fill_zero;
 use checks::all_equal;
 use file_walk::read_flat;
+use model::ADJUSTMENT;
 use model::CELLS;
 use model::EXPORTS;
 use model::FINAL_DEMAND;
@@ -45,14 +46,15 @@ fn deliver(
     imports: &mut [u64],
     value_added: &mut [u64],
     production: &mut [u64],
+    adjustment: &mut [u64],
     rises: &mut [u64],
 )
     requires { ⌜ length (now cells) ≡ cellLimit ⌝ }
     ensures { λ _. ⌜ ((marks s : List ℕ) (o : Reading) → o ≡ readingInto s
-        (slicesOf (now (x .entry)) (now («final_demand» .entry)) (now (exports .entry)) (now (imports .entry)) (now («value_added» .entry)) (now (production .entry)) (now (rises .entry))) marks
+        (slicesOf (now (x .entry)) (now («final_demand» .entry)) (now (exports .entry)) (now (imports .entry)) (now («value_added» .entry)) (now (production .entry)) (now (adjustment .entry)) (now (rises .entry))) marks
         → Held o (now (cells .entry)) → Delivered o
-        (slicesOf (now (x .entry)) (now («final_demand» .entry)) (now (exports .entry)) (now (imports .entry)) (now («value_added» .entry)) (now (production .entry)) (now (rises .entry)))
-        (slicesOf (now (x .exit)) (now («final_demand» .exit)) (now (exports .exit)) (now (imports .exit)) (now («value_added» .exit)) (now (production .exit)) (now (rises .exit)))) ⌝ }
+        (slicesOf (now (x .entry)) (now («final_demand» .entry)) (now (exports .entry)) (now (imports .entry)) (now («value_added» .entry)) (now (production .entry)) (now (adjustment .entry)) (now (rises .entry)))
+        (slicesOf (now (x .exit)) (now («final_demand» .exit)) (now (exports .exit)) (now (imports .exit)) (now («value_added» .exit)) (now (production .exit)) (now (adjustment .exit)) (now (rises .exit)))) ⌝ }
 {
     put_part(cells, 0, SHEET, x);
     put_part(cells, FINAL_DEMAND, SECTORS, final_demand);
@@ -60,6 +62,7 @@ fn deliver(
     put_part(cells, IMPORTS, SECTORS, imports);
     put_part(cells, VALUE_ADDED, SECTORS, value_added);
     put_part(cells, PRODUCTION, SECTORS, production);
+    put_part(cells, ADJUSTMENT, SECTORS, adjustment);
     put_part(cells, RISES, SECTORS, rises);
 }
 
@@ -109,12 +112,13 @@ pub fn read_table(
     imports: &mut [u64],
     value_added: &mut [u64],
     production: &mut [u64],
+    adjustment: &mut [u64],
     rises: &mut [u64],
     marks: &mut [u64],
 ) -> TableRead
     ensures { λ r. ⌜ FileRead (now (file .entry))
-        (slicesOf (now (x .entry)) (now («final_demand» .entry)) (now (exports .entry)) (now (imports .entry)) (now («value_added» .entry)) (now (production .entry)) (now (rises .entry))) (now (marks .entry)) (reportRead r)
-        (slicesOf (now (x .exit)) (now («final_demand» .exit)) (now (exports .exit)) (now (imports .exit)) (now («value_added» .exit)) (now (production .exit)) (now (rises .exit))) (now (marks .exit)) ⌝ }
+        (slicesOf (now (x .entry)) (now («final_demand» .entry)) (now (exports .entry)) (now (imports .entry)) (now («value_added» .entry)) (now (production .entry)) (now (adjustment .entry)) (now (rises .entry))) (now (marks .entry)) (reportRead r)
+        (slicesOf (now (x .exit)) (now («final_demand» .exit)) (now (exports .exit)) (now (imports .exit)) (now («value_added» .exit)) (now (production .exit)) (now (adjustment .exit)) (now (rises .exit))) (now (marks .exit)) ⌝ }
 {
     let columns = [
         final_demand.len(),
@@ -122,6 +126,7 @@ pub fn read_table(
         imports.len(),
         value_added.len(),
         production.len(),
+        adjustment.len(),
         rises.len(),
     ];
     let mut cells = [0u64; CELLS];
@@ -134,6 +139,7 @@ pub fn read_table(
         imports,
         value_added,
         production,
+        adjustment,
         rises,
     );
     answer

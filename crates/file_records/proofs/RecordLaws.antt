@@ -4,20 +4,41 @@ use mathlib.Core.List.{List}
 use mathlib.Core.Path.{_≡_, refl, sym, ap, _∙_, subst⁻¹}
 use Prim.Native.Nat.{ℕ, _+_, _*_, _-_, _/_, _%_, _^_, _≤_, _<_}
 use native.Mathlib.Omega.{arith}
-use borrow.Author.Tests.{lt-leb, le-leb, leb-true, leb-false, eq-eqb, ne-eqb, eqb-true, eqb-false}
-use lib.Dec.{eqb, leb}
-use lib.ListN.{length}
+use borrow.Author.Tests.{lt-leb, le-leb, leb-true, leb-false, ltb-true, ltb-false, eq-eqb, ne-eqb, eqb-true, eqb-false}
+use lib.Dec.{eqb, leb, ltb}
+use lib.ListN.{length, List·getD-eq-default}
 use Rattle.model.specs.Numbers.{first, cell}
+use Rattle.model.specs.Table.{sectorLimit}
 use Rattle.model.specs.File.{Entry, recordLengths, columnWords, kindAt, isFlow, nextAt, wholeAt, insideAt, amountFrom, entryAt}
 use Rattle.theory.proofs.Lists.{first-before}
 use Rattle.file_records.specs.Bodies.{Body}
 
--- a word that holds a number for each kind in digits, `bits` bits each; that they are those of a list is computed
-pub digits : (word bits base : ℕ) (xs : List ℕ) (k : ℕ) → k < 10 → first 10 (λ i. eqb (word / 2 ^ (bits * i) % base) (cell xs i)) ≡ 10
-    → word / 2 ^ (bits * k) % base ≡ cell xs k
-digits word bits base xs k h right =
-    eqb-true (word / 2 ^ (bits * k) % base) (cell xs k)
-    (first-before 10 (λ i. eqb (word / 2 ^ (bits * i) % base) (cell xs i)) k (subst⁻¹ (λ (m : ℕ). k < m) right h))
+-- what is computed of every kind holds of each
+each-kind : (p : ℕ → Bool) → first (length recordLengths) p ≡ length recordLengths → (k : ℕ) → k < length recordLengths → p k ≡ true
+each-kind p right k h = first-before (length recordLengths) p k (subst⁻¹ (λ (m : ℕ). k < m) right h)
+
+-- a word that holds a number for each kind in a digit of 4 bits
+abbrev pub digit : (word k : ℕ) → ℕ
+digit word k = word / 2 ^ (4 * k) % 16
+
+-- the lengths of records, and the words of columns
+pub length-digit : (word k : ℕ) → k < length recordLengths → first (length recordLengths) (λ i. eqb (digit word i) (cell recordLengths i)) ≡ length recordLengths
+    → digit word k ≡ cell recordLengths k
+length-digit word k h right = eqb-true _ _ (each-kind (λ i. eqb (digit word i) (cell recordLengths i)) right k h)
+
+abbrev columnOnly : (word : ℕ) → ℕ → Bool
+columnOnly word i = cond (eqb (cell recordLengths i) 6) (eqb (sectorLimit + digit word i) (cell columnWords i)) true
+
+pub known-kind : (k : ℕ) → cell recordLengths k ≡ 6 → k < length recordLengths
+known-kind k e = go (ltb k (length recordLengths)) refl
+  where
+    go : (b : Bool) → ltb k (length recordLengths) ≡ b → k < length recordLengths
+    go true h = ltb-true k (length recordLengths) h
+    go false h = absurd (let none = List·getD-eq-default recordLengths 0 {n = k} (ltb-false k (length recordLengths) h) in omega arith)
+
+pub column-digit : (word k : ℕ) → cell recordLengths k ≡ 6 → first (length recordLengths) (columnOnly word) ≡ length recordLengths
+    → sectorLimit + digit word k ≡ cell columnWords k
+column-digit word k e right = eqb-true _ _ (rw (eq-eqb (cell recordLengths k) 6 e) at (each-kind (columnOnly word) right k (known-kind k e)))
 
 -- a sector byte from 1 to n
 abbrev pub sector : ℕ → ℕ → Bool

@@ -1,4 +1,5 @@
 // The records of a table file: what stands at an offset of a lent file.
+use model::SECTORS;
 ghost use mathlib.Core.Bool.{_&&_};
 ghost use mathlib.Core.Path.{_≡_};
 ghost use Prim.Native.Nat.{_+_, _^_, _<_, _≤_};
@@ -10,10 +11,10 @@ ghost use Rattle.file_records.specs.Bodies.{Body, Sectors};
 
 // Bytes of a record by its kind, the kind byte counted; 0 where there is no such kind. One word with a digit of base 16 for each kind, from
 // the right: an array would be made anew at each record.
-const RECORD_LENGTHS: usize = 0x6_1_6_6_6_6_6_7_2_0;
+const RECORD_LENGTHS: usize = 0x6_6_1_6_6_6_6_6_7_2_0;
 
-// The word of a column by its kind, in two digits of base 8 for each kind.
-const COLUMN_WORDS: usize = 0o55_00_54_53_52_51_50_00_00_00;
+// The kinds of columns, counted from 0, in a digit for each kind alike: the word of a column is as much above those of the rows of x.
+const COLUMN_PLACES: usize = 0x6_5_0_4_3_2_1_0_0_0_0;
 
 // A byte at the wider types.
 pub fn wide(b: u8) -> usize
@@ -32,23 +33,20 @@ pub fn record_length(kind: u8) -> usize
     ensures { λ r. ⌜ r ≡ cell recordLengths kind ⌝ }
 {
     let k = wide(kind);
-    if k < 10 {
+    if k < 11 {
         return (RECORD_LENGTHS >> (4 * k)) % 16;
     }
     0
 }
 
 fn column_word(kind: u8) -> usize
+    requires { ⌜ cell recordLengths kind ≡ 6 ⌝ }
     ensures { λ r. ⌜ r ≡ cell columnWords kind ⌝ }
 {
-    let k = wide(kind);
-    if k < 10 {
-        return (COLUMN_WORDS >> (6 * k)) % 64;
-    }
-    0
+    SECTORS + (COLUMN_PLACES >> (4 * wide(kind))) % 16
 }
 
-// Question 11: is the kind 1 to 9, and the body whole?
+// Question 11: is the kind 1 to 10, and the body whole?
 pub fn is_whole(s: &[u8], at: usize) -> bool
     requires { ⌜ at < length (now s) ⌝ }
     ensures { λ r. ⌜ r ≡ wholeAt (now (s .entry)) at ⌝ }

@@ -84,7 +84,7 @@ part-zeros (suc a) b d = ap (λ (k : ℕ). take {A = ℕ} b (drop (suc a) (repli
 
 module _ (l : List ℕ) (q : l ≡ replicate cellLimit 0) where
   zero-flows : take sheetLimit l ≡ replicate sheetLimit 0
-  zero-flows = ap (take sheetLimit) q ∙ part-zeros 0 sheetLimit 240
+  zero-flows = ap (take sheetLimit) q ∙ part-zeros 0 sheetLimit (cellLimit - sheetLimit)
 
   zero-columns : (c : ℕ) → sectorLimit ≤ c → c < wordLimit → take sectorLimit (drop (c * sectorLimit) l) ≡ replicate sectorLimit 0
   zero-columns c lo hi =

@@ -1,4 +1,4 @@
--- What the functions of the walk owe each other. The cells lie in one list of 1,840: the 1,600 of x, then 40 for each of six columns, so that word c of
+-- What the functions of the walk owe each other. The cells lie in one list of 1,880: the 1,600 of x, then 40 for each of seven columns, so that word c of
 -- a column starts at c × 40.
 use mathlib.Core.Bool.{true}
 use mathlib.Core.List.{List, [], _∷_}

@@ -1,4 +1,4 @@
-// The walk over the records of a table file, into one slice of 1,840 cells and one of 46 words of marks.
+// The walk over the records of a table file, into one slice of 1,880 cells and one of 47 words of marks.
 use cells::fill_zero;
 use checks::is_sized;
 use file_records::amount_at;

@@ -13,7 +13,7 @@ use Rattle.model.specs.Numbers.{cell}
 use Rattle.model.specs.Table.{Table, sectorLimit}
 use Rattle.model.specs.Checks.{Check, accepts, refuses, report, verdict}
 use Rattle.model.specs.File.{encodeAll, fileOf, fileLimit}
-use Rattle.model.specs.Writer.{wordEntries, wordsEntries, rows, tableEntries, written, fileBytes, writerChecks, writerReport}
+use Rattle.model.specs.Writer.{wordEntries, wordsEntries, rows, columnsByKind, tableEntries, written, fileBytes, writerChecks, writerReport}
 use Rattle.model.specs.Contracts.{Slices, tableFrom, FileWritten}
 use Rattle.model.specs.declared.Answer.{Answer}
 use Rattle.model.specs.declared.Answer.the-variants.{Accepted, Refused}
@@ -86,12 +86,12 @@ module _ (n : ℕ) (x : List ℕ) (i : ℕ) where
 
 -- ---- the whole: kind 1, the rows, the columns, kind 8
 pub table-parts : (t : Table)
-    → written t ≡ (1 ∷ t .sectors ∷ []) ++ (wordsEncoded 0 (rows (t .sectors) (t .flows)) ++ (wordsEncoded sectorLimit (t .columns) ++ (8 ∷ [])))
+    → written t ≡ (1 ∷ t .sectors ∷ []) ++ (wordsEncoded 0 (rows (t .sectors) (t .flows)) ++ (wordsEncoded sectorLimit (columnsByKind t) ++ (8 ∷ [])))
 unfolding written tableEntries fileOf
 table-parts t =
     let n = t .sectors in
     let flows = wordsEntries 0 (rows n (t .flows)) in
-    let columns = wordsEntries sectorLimit (t .columns) in
+    let columns = wordsEntries sectorLimit (columnsByKind t) in
     ap (λ (s : List ℕ). 1 ∷ n ∷ (s ++ (8 ∷ []))) (encode-append flows columns)
     ∙ ap (λ (s : List ℕ). 1 ∷ n ∷ s) (append-assoc (encodeAll flows) (encodeAll columns) (8 ∷ []))
 

@@ -50,21 +50,23 @@ fn put_columns(
     value_added: &[u64],
     production: &[u64],
     rises: &[u64],
+    adjustment: &[u64],
     at: usize,
     file: &mut [u8],
 ) -> usize
-    requires { ⌜ ((c : ℕ) → c < length columnKinds → length (getD (now «final_demand» ∷ now exports ∷ now imports ∷ now «value_added» ∷ now production ∷ now rises ∷ []) c []) ≤ sectorLimit) ⌝ }
-    requires { ⌜ ((c k : ℕ) → cell (getD (now «final_demand» ∷ now exports ∷ now imports ∷ now «value_added» ∷ now production ∷ now rises ∷ []) c []) k ≤ amountLimit) ⌝ }
-    requires { ⌜ at + length (encodeAll (wordsEntries sectorLimit (now «final_demand» ∷ now exports ∷ now imports ∷ now «value_added» ∷ now production ∷ now rises ∷ []))) ≤ length (now file) ⌝ }
-    ensures { λ r. ⌜ r ≡ at + length (encodeAll (wordsEntries sectorLimit (now («final_demand» .entry) ∷ now (exports .entry) ∷ now (imports .entry) ∷ now («value_added» .entry) ∷ now (production .entry) ∷ now (rises .entry) ∷ []))) ⌝ }
-    ensures { λ _. ⌜ now (file .exit) ≡ sets (now (file .entry)) at (encodeAll (wordsEntries sectorLimit (now («final_demand» .entry) ∷ now (exports .entry) ∷ now (imports .entry) ∷ now («value_added» .entry) ∷ now (production .entry) ∷ now (rises .entry) ∷ []))) ⌝ }
+    requires { ⌜ ((c : ℕ) → c < length columnKinds → length (getD (now «final_demand» ∷ now exports ∷ now imports ∷ now «value_added» ∷ now production ∷ now rises ∷ now adjustment ∷ []) c []) ≤ sectorLimit) ⌝ }
+    requires { ⌜ ((c k : ℕ) → cell (getD (now «final_demand» ∷ now exports ∷ now imports ∷ now «value_added» ∷ now production ∷ now rises ∷ now adjustment ∷ []) c []) k ≤ amountLimit) ⌝ }
+    requires { ⌜ at + length (encodeAll (wordsEntries sectorLimit (now «final_demand» ∷ now exports ∷ now imports ∷ now «value_added» ∷ now production ∷ now rises ∷ now adjustment ∷ []))) ≤ length (now file) ⌝ }
+    ensures { λ r. ⌜ r ≡ at + length (encodeAll (wordsEntries sectorLimit (now («final_demand» .entry) ∷ now (exports .entry) ∷ now (imports .entry) ∷ now («value_added» .entry) ∷ now (production .entry) ∷ now (rises .entry) ∷ now (adjustment .entry) ∷ []))) ⌝ }
+    ensures { λ _. ⌜ now (file .exit) ≡ sets (now (file .entry)) at (encodeAll (wordsEntries sectorLimit (now («final_demand» .entry) ∷ now (exports .entry) ∷ now (imports .entry) ∷ now («value_added» .entry) ∷ now (production .entry) ∷ now (rises .entry) ∷ now (adjustment .entry) ∷ []))) ⌝ }
 {
     let first = put_word(SECTORS, final_demand, at, file);
     let second = put_word(SECTORS + 1, exports, first, file);
     let third = put_word(SECTORS + 2, imports, second, file);
     let fourth = put_word(SECTORS + 3, value_added, third, file);
     let fifth = put_word(SECTORS + 4, production, fourth, file);
-    put_word(SECTORS + 5, rises, fifth, file)
+    let sixth = put_word(SECTORS + 5, rises, fifth, file);
+    put_word(SECTORS + 6, adjustment, sixth, file)
 }
 
 // The file of a table whose slices have their lengths, from the start of bytes that hold it.
@@ -76,13 +78,14 @@ fn put_table(
     imports: &[u64],
     value_added: &[u64],
     production: &[u64],
+    adjustment: &[u64],
     rises: &[u64],
     file: &mut [u8],
 ) -> usize
-    requires { ⌜ (let t = tableOf n (now x) (now «final_demand» ∷ now exports ∷ now imports ∷ now «value_added» ∷ now production ∷ now rises ∷ []) in
+    requires { ⌜ (let t = tableOf n (now x) (now «final_demand» ∷ now exports ∷ now imports ∷ now «value_added» ∷ now production ∷ now adjustment ∷ now rises ∷ []) in
         TableSizes t × TableAmounts t × (length (written t) ≤ length (now file))) ⌝ }
-    ensures { λ r. ⌜ r ≡ length (written (tableOf n (now (x .entry)) (now («final_demand» .entry) ∷ now (exports .entry) ∷ now (imports .entry) ∷ now («value_added» .entry) ∷ now (production .entry) ∷ now (rises .entry) ∷ []))) ⌝ }
-    ensures { λ _. ⌜ now (file .exit) ≡ sets (now (file .entry)) 0 (written (tableOf n (now (x .entry)) (now («final_demand» .entry) ∷ now (exports .entry) ∷ now (imports .entry) ∷ now («value_added» .entry) ∷ now (production .entry) ∷ now (rises .entry) ∷ []))) ⌝ }
+    ensures { λ r. ⌜ r ≡ length (written (tableOf n (now (x .entry)) (now («final_demand» .entry) ∷ now (exports .entry) ∷ now (imports .entry) ∷ now («value_added» .entry) ∷ now (production .entry) ∷ now (adjustment .entry) ∷ now (rises .entry) ∷ []))) ⌝ }
+    ensures { λ _. ⌜ now (file .exit) ≡ sets (now (file .entry)) 0 (written (tableOf n (now (x .entry)) (now («final_demand» .entry) ∷ now (exports .entry) ∷ now (imports .entry) ∷ now («value_added» .entry) ∷ now (production .entry) ∷ now (adjustment .entry) ∷ now (rises .entry) ∷ []))) ⌝ }
 {
     let opening = [1u8, n as u8];
     let flows = put_bytes(&opening, 0, file);
@@ -94,6 +97,7 @@ fn put_table(
         value_added,
         production,
         rises,
+        adjustment,
         columns,
         file,
     );
@@ -109,10 +113,11 @@ fn check_written(
     imports: &[u64],
     value_added: &[u64],
     production: &[u64],
+    adjustment: &[u64],
     rises: &[u64],
     file: usize,
 ) -> Answer
-    ensures { λ r. ⌜ report r ≡ verdict (writerChecks (tableOf n (now (x .entry)) (now («final_demand» .entry) ∷ now (exports .entry) ∷ now (imports .entry) ∷ now («value_added» .entry) ∷ now (production .entry) ∷ now (rises .entry) ∷ [])) file) [] ⌝ }
+    ensures { λ r. ⌜ report r ≡ verdict (writerChecks (tableOf n (now (x .entry)) (now («final_demand» .entry) ∷ now (exports .entry) ∷ now (imports .entry) ∷ now («value_added» .entry) ∷ now (production .entry) ∷ now (adjustment .entry) ∷ now (rises .entry) ∷ [])) file) [] ⌝ }
 {
     let matrices = [x.len()];
     let columns = [
@@ -121,6 +126,7 @@ fn check_written(
         imports.len(),
         value_added.len(),
         production.len(),
+        adjustment.len(),
         rises.len(),
     ];
     let sizes = check_sizes(n, &matrices, &columns);
@@ -141,11 +147,12 @@ fn check_written(
         imports,
         value_added,
         production,
+        adjustment,
     );
     next_within(amounts, n * n + (COLUMNS - 1) * n, AMOUNT_LIMIT, rises)
 }
 
-// Writes a table as a file, into 12,643 bytes; the bytes after the file are 0. After a refusal every byte is 0. What it promises is `FileWritten`.
+// Writes a table as a file, into 12,883 bytes; the bytes after the file are 0. After a refusal every byte is 0. What it promises is `FileWritten`.
 pub fn write_table(
     n: usize,
     x: &[u64],
@@ -154,11 +161,12 @@ pub fn write_table(
     imports: &[u64],
     value_added: &[u64],
     production: &[u64],
+    adjustment: &[u64],
     rises: &[u64],
     file: &mut [u8],
 ) -> TableWritten
     ensures { λ r. ⌜ FileWritten n
-        (slicesOf (now (x .entry)) (now («final_demand» .entry)) (now (exports .entry)) (now (imports .entry)) (now («value_added» .entry)) (now (production .entry)) (now (rises .entry)))
+        (slicesOf (now (x .entry)) (now («final_demand» .entry)) (now (exports .entry)) (now (imports .entry)) (now («value_added» .entry)) (now (production .entry)) (now (adjustment .entry)) (now (rises .entry)))
         (now (file .entry)) (reportWritten r) (now (file .exit)) ⌝ }
 {
     clear_bytes(file);
@@ -170,6 +178,7 @@ pub fn write_table(
         imports,
         value_added,
         production,
+        adjustment,
         rises,
         file.len(),
     );
@@ -184,6 +193,7 @@ pub fn write_table(
                 imports,
                 value_added,
                 production,
+                adjustment,
                 rises,
                 file,
             );

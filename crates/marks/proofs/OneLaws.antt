@@ -38,7 +38,7 @@ ones-set w h = ap ones (sym (mod-eq-of-lt h)) ∙ ones-low wordPositions w
 pub ones-fit : (w : ℕ) → w < 2 ^ wordPositions → ones w < 2 ^ wordPositions
 ones-fit w h = omega (arith, ones-set w h, set-most w)
 
--- all words together have at most 46 times 64
+-- all words together have at most 47 times 64
 pub total-most : (marks : List ℕ) → markTotal marks ≤ wordLimit * wordPositions
 unfolding markTotal
 total-most marks = sum-most wordLimit wordPositions (λ w _. set-most (cell marks w))

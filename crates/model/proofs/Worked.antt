@@ -88,7 +88,7 @@ table =
     record {
       sectors = 2;
       flows = 100 ∷ 400 ∷ 300 ∷ 600 ∷ [];
-      columns = (500 ∷ 900 ∷ []) ∷ (250 ∷ 560 ∷ []) ∷ (250 ∷ 360 ∷ []) ∷ (600 ∷ 1000 ∷ []) ∷ (1000 ∷ 2000 ∷ []) ∷ [];
+      columns = (500 ∷ 900 ∷ []) ∷ (250 ∷ 560 ∷ []) ∷ (250 ∷ 360 ∷ []) ∷ (600 ∷ 1000 ∷ []) ∷ (1000 ∷ 2000 ∷ []) ∷ (0 ∷ 0 ∷ []) ∷ [];
     }
 
 abbrev pub d : List ℕ
@@ -139,3 +139,37 @@ pub slips :
     × (changes 2 (at 2 d) f 8 ≡ true)
 unfolding rounds round intermediate changes
 slips = (refl, refl)
+
+-- ---- document 02, ticket 3: the adjustment item
+-- two sectors whose sheets are all 0 but for f: they sell abroad what they make, of value added alone
+abbrev exporting : (exports adjustment valueAdded production : List ℕ) → Table
+exporting e g v x =
+    record { sectors = 2; flows = 0 ∷ 0 ∷ 0 ∷ 0 ∷ []; columns = (0 ∷ 0 ∷ []) ∷ e ∷ (0 ∷ 0 ∷ []) ∷ v ∷ x ∷ g ∷ [] }
+
+abbrev noSheets : List (List ℕ)
+noSheets = (0 ∷ 0 ∷ 0 ∷ 0 ∷ []) ∷ (0 ∷ 0 ∷ []) ∷ (0 ∷ 0 ∷ []) ∷ (0 ∷ 0 ∷ 0 ∷ 0 ∷ []) ∷ (0 ∷ 0 ∷ []) ∷ []
+
+unfoldable pub adjustedRows : List Row
+adjustedRows =
+    -- 50 of the worked table's exports as an adjustment item: every sheet stays. Cut by the import share f(0) would be 612, in the divisor m(0) 238,095
+    coefficientsOf
+    (record {
+      sectors = 2;
+      flows = 100 ∷ 400 ∷ 300 ∷ 600 ∷ [];
+      columns = (500 ∷ 900 ∷ []) ∷ (200 ∷ 560 ∷ []) ∷ (250 ∷ 360 ∷ []) ∷ (600 ∷ 1000 ∷ []) ∷ (1000 ∷ 2000 ∷ []) ∷ (50 ∷ 0 ∷ []) ∷ [];
+    })
+    ⊳ (accepts [] leaving ((100000 ∷ 200000 ∷ 300000 ∷ 300000 ∷ []) ∷ (600000 ∷ 500000 ∷ []) ∷ (250000 ∷ 200000 ∷ []) ∷ d ∷ f ∷ []))
+    -- E plus G of exactly 1,000,000,000; one more is refused by 16 in its sector, also where 4 would refuse
+    ∷ coefficientsOf (exporting (0 ∷ 999999999 ∷ []) (0 ∷ 1 ∷ []) (0 ∷ 1000000000 ∷ []) (0 ∷ 1000000000 ∷ []))
+    ⊳ (accepts [] leaving ((0 ∷ 0 ∷ 0 ∷ 0 ∷ []) ∷ (0 ∷ 1000000 ∷ []) ∷ (0 ∷ 0 ∷ []) ∷ (0 ∷ 0 ∷ 0 ∷ 0 ∷ []) ∷ (0 ∷ 1000000000 ∷ []) ∷ []))
+    ∷ coefficientsOf (exporting (0 ∷ 1000000000 ∷ []) (0 ∷ 1 ∷ []) (1 ∷ 0 ∷ []) (0 ∷ 0 ∷ [])) ⊳ (refuses 0 16 1 leaving noSheets)
+    -- 3 reads G after X, and comes before 16
+    ∷ coefficientsOf (exporting (0 ∷ 1000000000 ∷ []) (1000000001 ∷ 1 ∷ []) (0 ∷ 0 ∷ []) (0 ∷ 0 ∷ [])) ⊳ (refuses 0 3 14 leaving noSheets)
+    -- it is in the row balance
+    ∷ coefficientsOf (exporting (0 ∷ 0 ∷ []) (0 ∷ 1 ∷ []) (0 ∷ 0 ∷ []) (0 ∷ 0 ∷ [])) ⊳ (refuses 0 5 1 leaving noSheets)
+    ∷ []
+
+-- Theorem, for the reader: every case above is answered as stated
+pub worked-adjustment : map (λ (r : Row). r .given) adjustedRows ≡ map (λ (r : Row). r .stated) adjustedRows
+unfolding adjustedRows coefficientsReport inputCoefficients valueAddedCoefficients importCoefficients domesticCoefficients domesticDemands absorption inputCoefficient valueAddedCoefficient importCoefficient domesticCoefficient domesticDemand
+worked-adjustment = refl

@@ -37,7 +37,7 @@ worked-file = (refl, refl, refl, refl)
 -- ---- the marks
 -- those of the worked table: both cells of rows 0 and 1 and of five columns
 abbrev workedMarks : List ℕ
-workedMarks = 3 ∷ 3 ∷ (replicate 38 0 ++ (3 ∷ 3 ∷ 3 ∷ 3 ∷ 3 ∷ 0 ∷ []))
+workedMarks = 3 ∷ 3 ∷ (replicate 38 0 ++ (3 ∷ 3 ∷ 3 ∷ 3 ∷ 3 ∷ 0 ∷ 0 ∷ []))
 
 -- Theorem, for the reader: the set positions of words with none, only the lowest, only the highest, and all; the worked table's marks name its 14 cells
 pub worked-marks :
@@ -47,29 +47,39 @@ unfolding setPositions markTotal
 worked-marks = (refl, refl, refl, refl, refl)
 
 -- ---- the writer
--- the worked table with these rises
-abbrev workedTable : List ℕ → Table
-workedTable rises =
+-- the worked table with this adjustment item and these rises
+abbrev workedTable : (adjustment rises : List ℕ) → Table
+workedTable adjustment rises =
     tableOf 2 (100 ∷ 400 ∷ 300 ∷ 600 ∷ [])
-    ((500 ∷ 900 ∷ []) ∷ (250 ∷ 560 ∷ []) ∷ (250 ∷ 360 ∷ []) ∷ (600 ∷ 1000 ∷ []) ∷ (1000 ∷ 2000 ∷ []) ∷ rises ∷ [])
+    ((500 ∷ 900 ∷ []) ∷ (250 ∷ 560 ∷ []) ∷ (250 ∷ 360 ∷ []) ∷ (600 ∷ 1000 ∷ []) ∷ (1000 ∷ 2000 ∷ []) ∷ adjustment ∷ rises ∷ [])
+
+abbrev zeros : List ℕ
+zeros = 0 ∷ 0 ∷ []
 
 -- Theorem, for the reader: the worked table is written as that file, reading it returns the table, and the answer tells its 91 bytes
 pub worked-written :
-    (written (workedTable (0 ∷ 0 ∷ [])) ≡ fileOf 2 entries)
-    × (returned (reading (written (workedTable (0 ∷ 0 ∷ [])))) ≡ workedTable (0 ∷ 0 ∷ []))
-    × (writerReport (workedTable (0 ∷ 0 ∷ [])) fileLimit ≡ accepts (91 ∷ []))
+    (written (workedTable zeros zeros) ≡ fileOf 2 entries)
+    × (returned (reading (written (workedTable zeros zeros))) ≡ workedTable zeros zeros)
+    × (writerReport (workedTable zeros zeros) fileLimit ≡ accepts (91 ∷ []))
 unfolding encode fileOf wholeAt insideAt entryAt walk reading tableEntries written writerReport
 worked-written = (refl, refl, refl)
 
--- a table of one sector in its bytes: only x and the rise are not 0. Rises are asked by 3 too, after X, and all bytes are lent
+-- a table of one sector in its bytes: only x, the adjustment item and the rise are not 0, and the item is written after the rise
 pub small-written :
-    _≡_ {A = List ℕ} (written (tableOf 1 (258 ∷ []) ((0 ∷ []) ∷ (0 ∷ []) ∷ (0 ∷ []) ∷ (0 ∷ []) ∷ (0 ∷ []) ∷ (1000000000 ∷ []) ∷ [])))
-    (1 ∷ 1 ∷ 2 ∷ 1 ∷ 1 ∷ 0 ∷ 0 ∷ 1 ∷ 2 ∷ 9 ∷ 1 ∷ 59 ∷ 154 ∷ 202 ∷ 0 ∷ 8 ∷ [])
-    × (writerReport (workedTable (0 ∷ 1000000001 ∷ [])) fileLimit ≡ refuses 1 3 15)
-    × (writerReport (workedTable (0 ∷ 0 ∷ [])) 91 ≡ refuses 1 2 0)
-    × (writerReport (workedTable (0 ∷ [])) fileLimit ≡ refuses 1 2 0)
+    _≡_ {A = List ℕ} (written (tableOf 1 (258 ∷ []) ((0 ∷ []) ∷ (0 ∷ []) ∷ (0 ∷ []) ∷ (0 ∷ []) ∷ (0 ∷ []) ∷ (5 ∷ []) ∷ (1000000000 ∷ []) ∷ [])))
+    (1 ∷ 1 ∷ 2 ∷ 1 ∷ 1 ∷ 0 ∷ 0 ∷ 1 ∷ 2 ∷ 9 ∷ 1 ∷ 59 ∷ 154 ∷ 202 ∷ 0 ∷ 10 ∷ 1 ∷ 0 ∷ 0 ∷ 0 ∷ 5 ∷ 8 ∷ [])
+unfolding encode fileOf tableEntries written
+small-written = refl
+
+-- 3 asks the adjustment item after X, and the rises after it; all bytes are lent; the writer does not ask 16
+pub worked-writer :
+    (writerReport (workedTable (1000000001 ∷ 0 ∷ []) (1000000001 ∷ 0 ∷ [])) fileLimit ≡ refuses 1 3 14)
+    × (writerReport (workedTable zeros (0 ∷ 1000000001 ∷ [])) fileLimit ≡ refuses 1 3 17)
+    × (writerReport (workedTable zeros zeros) 91 ≡ refuses 1 2 0)
+    × (writerReport (workedTable zeros (0 ∷ [])) fileLimit ≡ refuses 1 2 0)
+    × (writerReport (workedTable (1000000000 ∷ 0 ∷ []) zeros) fileLimit ≡ accepts (97 ∷ []))
 unfolding encode fileOf tableEntries written writerReport
-small-written = (refl, refl, refl, refl)
+worked-writer = (refl, refl, refl, refl, refl)
 
 -- Theorem, for the reader: words are in the order of kinds, 2 for the rows of x and then those of the columns
 abbrev rising : List ℕ → Bool
@@ -100,9 +110,12 @@ rows =
     -- 11: no such kind; a body that is cut, whatever it is
     ∷ (0 ∷ []) ⊳ Reading.refused 11 0
     ∷ (1 ∷ []) ⊳ Reading.refused 11 0
+    ∷ (1 ∷ 2 ∷ 11 ∷ 1 ∷ 0 ∷ 0 ∷ 0 ∷ 5 ∷ 8 ∷ []) ⊳ Reading.refused 11 2
     ∷ (1 ∷ 2 ∷ 10 ∷ []) ⊳ Reading.refused 11 2
     ∷ (1 ∷ 2 ∷ 1 ∷ []) ⊳ Reading.refused 11 2
     ∷ (1 ∷ 2 ∷ 2 ∷ 9 ∷ 9 ∷ 0 ∷ 0 ∷ 0 ∷ []) ⊳ Reading.refused 11 2
+    -- kind 10, an adjustment item, has the word after that of the rises
+    ∷ (1 ∷ 2 ∷ 10 ∷ 2 ∷ 0 ∷ 0 ∷ 0 ∷ 5 ∷ 8 ∷ []) ⊳ Reading.table 2 (naming 46 1 5 ∷ [])
     -- 12: another kind first; n out of range; a second kind 1
     ∷ (8 ∷ []) ⊳ Reading.refused 12 0
     ∷ (1 ∷ 0 ∷ 8 ∷ []) ⊳ Reading.refused 12 0

@@ -26,7 +26,7 @@ module _ (t : Table) where
   unfoldable pub domesticDemands : Cells
   domesticDemands = tabulate (t .sectors) (domesticDemand t)
 
-  -- Sheets from a table ask 1 to 7
+  -- Sheets from a table ask 1 to 7, and 16 after 3
   abbrev pub tableChecks : (matrices lent : List ℕ) → List Check
   tableChecks matrices lent =
       size (t .sectors) ∷ lengths (t .sectors) (length (t .flows) ∷ matrices) (map length (t .columns) ++ lent)

@@ -5,7 +5,7 @@ use Prim.Native.Nat.{ℕ, suc, _+_, _*_}
 use lib.Dec.{eqb, leb, ltb}
 use lib.ListN.{length, replicate}
 use Rattle.model.specs.Numbers.{Cells, Sheet, one, sum, first, all, cell, at, columnSum}
-use Rattle.model.specs.Table.{Table, fewSectors, flow, need, exports, imports, valueAdded, production}
+use Rattle.model.specs.Table.{Table, fewSectors, flow, need, imports, valueAdded, production, adjustedExports}
 use Rattle.model.specs.Rounds.{intermediate, settling, unit}
 use Rattle.model.specs.declared.Answer.{Answer}
 use Rattle.model.specs.declared.Answer.the-variants.{Accepted, Refused}
@@ -129,24 +129,29 @@ abbrev pub inducedAmounts : (a m v F : Cells) → List Check
 inducedAmounts a m v F = countedOn 0 (bounded 3 0 one a ∷ bounded 3 0 one m ∷ bounded 3 0 one v ∷ bounded 3 0 amountLimit F ∷ [])
 
 module _ (t : Table) where
+  -- 16. document 02, ticket 3, asked after 3: E plus G is within 1,000,000,000 in every sector. With F as much, this keeps f within question 8's limit
+  abbrev pub exportsWithin : Check
+  exportsWithin = each 16 (t .sectors) (λ i. leb (adjustedExports t i) amountLimit)
+
   -- 4. every column balances
   abbrev pub columnBalances : Check
   columnBalances =
       each 4 (t .sectors)
       (λ j. eqb (columnSum (t .sectors) (flow t) j + cell (valueAdded t) j) (cell (production t) j))
 
-  -- 5. every row balances
+  -- 5. every row balances; the adjustment item "joins the row balance beside E"
   abbrev pub rowBalances : Check
   rowBalances =
       each 5 (t .sectors)
-      (λ i. eqb (need t i + cell (exports t) i) (cell (production t) i + cell (imports t) i))
+      (λ i. eqb (need t i + adjustedExports t i) (cell (production t) i + cell (imports t) i))
 
   -- 6. a sector's imports are at most its domestic need
   abbrev pub importsCovered : Check
   importsCovered = each 6 (t .sectors) (λ i. leb (cell (imports t) i) (need t i))
 
+  -- what sheets from a table ask of its amounts together, in order: 16, 4, 5 and 6
   abbrev pub balanceChecks : List Check
-  balanceChecks = columnBalances ∷ rowBalances ∷ importsCovered ∷ []
+  balanceChecks = exportsWithin ∷ columnBalances ∷ rowBalances ∷ importsCovered ∷ []
 
 -- 7. every column sum of domestic coefficients is at most 950,000
 abbrev pub columnLimit : ℕ

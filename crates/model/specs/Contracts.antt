@@ -5,18 +5,19 @@ use mathlib.Core.Path.{_≡_}
 use mathlib.Core.Logic.{_↔_}
 use mathlib.Core.Bool.{true}
 use mathlib.Core.List.{List, [], _∷_, map, reverse}
-use Prim.Native.Nat.{ℕ, _*_, _≤_}
+use Prim.Native.Nat.{ℕ, _*_, _≤_, _<_}
 use lib.ListN.{length, getD, take, replicate}
 use Rattle.model.specs.Numbers.{Cells, cell, at, transposed}
-use Rattle.model.specs.Table.{Table, tableOf}
-use Rattle.model.specs.Bytes.{Bytes}
+use Rattle.model.specs.Table.{Table, tableOf, sectorLimit}
+use Rattle.model.specs.Bytes.{Bytes, padded}
 use Rattle.model.specs.Rounds.{settled, Settles, impliedDemand, inducedValueAdded, inducedImports, inverse, dispersion}
-use Rattle.model.specs.Checks.{Report, accepts, verdict, output, reportRead, roundsOf, sectorsOf, bytesOf, tableAmounts}
+use Rattle.model.specs.Checks.{Report, accepts, verdict, output, reportRead, roundsOf, sectorsOf, bytesOf, tableAmounts, demandLimit}
 use Rattle.model.specs.Calls.{coefficientsReport, inputCoefficients, valueAddedCoefficients, importCoefficients, domesticCoefficients, domesticDemands, productionReport, priceReport, impliedReport, inducedReport, inverseReport}
 use Rattle.model.specs.Promises.{Distinguishes, Accurate, AccuratePrices, Returns, NotAbove}
-use Rattle.model.specs.File.{Entry, Reading, reading, called, answerOf, flowsRead, columnRead, columnWord, fileLimit}
+use Rattle.model.specs.File.{Entry, Reading, reading, called, answerOf, flowsRead, columnRead, columnWord, fileLimit, tableNamed}
 use Rattle.model.specs.Writer.{tableEntries, written, fileBytes, writerReport, InForm, returned}
-use Rattle.model.specs.Page.{pageReport, pageBytes}
+use Rattle.model.specs.Page.{pageLimit, pageReport, pageBytes}
+use Rattle.model.specs.Unadjusted.{NoAdjustment, Unadjusted, withoutAdjustment, unadjustedReport, unadjustedDemands, unadjustedPage}
 
 -- Sheets from a table t: a, v, m, d and f
 pub record Derived (t : Table) (a₀ v₀ m₀ d₀ f₀ : Cells) (r : Report) (a v m d f : Cells) : Type 0 where
@@ -26,6 +27,12 @@ pub record Derived (t : Table) (a₀ v₀ m₀ d₀ f₀ : Cells) (r : Report) (
   pub imports : m ≡ output r (length m₀) (importCoefficients t)
   pub domestic : d ≡ output r (length d₀) (domesticCoefficients t)
   pub demands : f ≡ output r (length f₀) (domesticDemands t)
+  -- document 02, ticket 3: with G too, f is within the limit of question 8
+  pub small : r .accepted ≡ true → (i : ℕ) → i < t .sectors → cell f i ≤ demandLimit
+  -- and where G is 0, answer and f are those of document 01's own formulas
+  pub unadjusted : NoAdjustment t
+      → (r ≡ unadjustedReport (withoutAdjustment t) (length a₀ ∷ length d₀ ∷ []) (length v₀ ∷ length m₀ ∷ length f₀ ∷ []))
+      × (f ≡ output r (length f₀) (unadjustedDemands (withoutAdjustment t)))
 
 -- Production from a demand f for domestic goods. Demand 3 is `distinct` and `accurate`: an accepted production differs from that of every other
 -- demand, and only from those; and against every exact balance it is nowhere too high, and all sectors together lack less than 20 × n
@@ -71,7 +78,7 @@ pub record Inverted (n : ℕ) (d : Cells) (budget : ℕ) (sheet₀ power₀ sens
   pub powers : power ≡ output r (length power₀) (dispersion n (at n (inverse n d budget)))
   pub sensitivities : sensitivity ≡ output r (length sensitivity₀) (dispersion n (transposed (at n (inverse n d budget))))
 
--- The slices that a table file is read into, or written from: x, F, E, M, V, X and the rises
+-- The slices that a table file is read into, or written from: x, F, E, M, V, X, G and the rises
 pub record Slices : Type 0 where
   pub flows : Cells
   pub finalDemand : Cells
@@ -79,16 +86,17 @@ pub record Slices : Type 0 where
   pub imports : Cells
   pub valueAdded : Cells
   pub production : Cells
+  pub adjustment : Cells
   pub rises : Cells
 
 -- by their order in a call
-abbrev pub slicesOf : (x f e m v p w : Cells) → Slices
-slicesOf x f e m v p w =
-    record { flows = x; finalDemand = f; exports = e; imports = m; valueAdded = v; production = p; rises = w }
+abbrev pub slicesOf : (x f e m v p g w : Cells) → Slices
+slicesOf x f e m v p g w =
+    record { flows = x; finalDemand = f; exports = e; imports = m; valueAdded = v; production = p; adjustment = g; rises = w }
 
--- "each of six columns"
+-- its seven columns
 abbrev pub columnsOf : Slices → List Cells
-columnsOf s = s .finalDemand ∷ s .exports ∷ s .imports ∷ s .valueAdded ∷ s .production ∷ s .rises ∷ []
+columnsOf s = s .finalDemand ∷ s .exports ∷ s .imports ∷ s .valueAdded ∷ s .production ∷ s .adjustment ∷ s .rises ∷ []
 
 -- the reading of a file into slices and work words of these lengths
 abbrev pub readingInto : (file : Bytes) (s₀ : Slices) (marks₀ : Cells) → Reading
@@ -102,7 +110,8 @@ pub record Delivered (o : Reading) (s₀ s : Slices) : Type 0 where
   pub imports : s .imports ≡ columnRead (columnWord 2) (length (s₀ .imports)) o
   pub valueAdded : s .valueAdded ≡ columnRead (columnWord 3) (length (s₀ .valueAdded)) o
   pub production : s .production ≡ columnRead (columnWord 4) (length (s₀ .production)) o
-  pub rises : s .rises ≡ columnRead (columnWord 5) (length (s₀ .rises)) o
+  pub adjustment : s .adjustment ≡ columnRead (columnWord 5) (length (s₀ .adjustment)) o
+  pub rises : s .rises ≡ columnRead (columnWord 6) (length (s₀ .rises)) o
 
 -- "Cells beyond n are 0": of x from cell n × n on, and of each column from cell n on
 pub record Beyond (n : ℕ) (s : Slices) : Type 0 where
@@ -114,13 +123,15 @@ pub record FileRead (file : Bytes) (s₀ : Slices) (marks₀ : Cells) (r : Repor
   pub answer : r ≡ reportRead (answerOf (readingInto file s₀ marks₀))
   pub delivered : Delivered (readingInto file s₀ marks₀) s₀ s
   pub beyond : Beyond (sectorsOf r) s
+  -- document 02, ticket 3: "A file without kind 10 means G = 0"
+  pub unadjusted : (n : ℕ) (es : List Entry) → readingInto file s₀ marks₀ ≡ Reading.table n es → Unadjusted es → s .adjustment ≡ replicate sectorLimit 0
   pub cleared : marks ≡ replicate (length marks₀) 0
 
 -- the table in slices, with the rises as its last column
 abbrev pub tableFrom : ℕ → Slices → Table
 tableFrom n s = tableOf n (s .flows) (columnsOf s)
 
--- What is promised of the file of the table t, which begins the 12,643 bytes that were lent: document 02, ticket 1
+-- What is promised of the file of the table t, which begins the 12,883 bytes that were lent: document 02, ticket 1
 pub record Archived (t : Table) (file lent : Bytes) : Type 0 where
   pub fits : length file ≤ fileLimit
   -- it is itself accepted, its cells in the order in which it was written (a reading has the last one first)
@@ -147,3 +158,6 @@ pub record FileWritten (n : ℕ) (s : Slices) (file₀ : Bytes) (r : Report) (fi
 pub record PagePrinted (file out₀ : Bytes) (r : Report) (out : Bytes) : Type 0 where
   pub answer : r ≡ pageReport (length out₀) file
   pub outputs : out ≡ output r (length out₀) (pageBytes file)
+  -- document 02, ticket 3: a file without kind 10 "keeps its results", by document 01's own formulas
+  pub unadjusted : (n : ℕ) (es : List Entry) → reading file ≡ Reading.table n es → Unadjusted es
+      → pageBytes file ≡ padded pageLimit (unadjustedPage (tableNamed 5 n es))

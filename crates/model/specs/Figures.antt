@@ -20,22 +20,38 @@ firstRefusal (r ∷ rs) ks =
     let later = firstRefusal rs ks in
     cond (r .accepted) later (refuses (length ks) (r .number) (r .place))
 
+-- of a table t and a demand f for domestic goods
+module _ (t : Table) (f : Cells) where
+  -- production of f, and what it induces with the table's F
+  abbrev pub productionFrom : Cells
+  productionFrom = settled (t .sectors) (at (t .sectors) (domesticCoefficients t)) f pageBudget
+
+  abbrev pub valueFrom : Cells
+  valueFrom = inducedValueAdded (t .sectors) (valueAddedCoefficients t) productionFrom
+
+  abbrev pub importsFrom : Cells
+  importsFrom = inducedImports (t .sectors) (at (t .sectors) (inputCoefficients t)) (importCoefficients t) (finalDemand t) productionFrom
+
+  -- sheets from the table, which were answered so, production, induced amounts: the first of the three that refuses, or the rounds
+  abbrev pub reportFrom : (sheets : Report) → Report
+  reportFrom sheets =
+      let n = t .sectors in
+      let settling = productionReport n (domesticCoefficients t) f pageBudget (n ∷ n ∷ []) in
+      let inducing = inducedReport n (inputCoefficients t) (importCoefficients t) (valueAddedCoefficients t) (finalDemand t) productionFrom (n ∷ n ∷ []) in
+      firstRefusal (sheets ∷ settling ∷ inducing ∷ []) (roundsOf settling ∷ [])
+
+-- of a table's own demand for domestic goods
 module _ (t : Table) where
-  -- production of the table's demand for domestic goods, and what it induces with the table's F
   abbrev pub figuresProduction : Cells
-  figuresProduction = settled (t .sectors) (at (t .sectors) (domesticCoefficients t)) (domesticDemands t) pageBudget
+  figuresProduction = productionFrom t (domesticDemands t)
 
   abbrev pub figuresValue : Cells
-  figuresValue = inducedValueAdded (t .sectors) (valueAddedCoefficients t) figuresProduction
+  figuresValue = valueFrom t (domesticDemands t)
 
   abbrev pub figuresImports : Cells
-  figuresImports = inducedImports (t .sectors) (at (t .sectors) (inputCoefficients t)) (importCoefficients t) (finalDemand t) figuresProduction
+  figuresImports = importsFrom t (domesticDemands t)
 
-  -- sheets from the table, production, induced amounts: the first of the three that refuses, or the rounds
   unfoldable pub figuresReport : Report
   figuresReport =
       let n = t .sectors in
-      let sheets = coefficientsReport t (n * n ∷ n * n ∷ []) (n ∷ n ∷ n ∷ []) in
-      let settling = productionReport n (domesticCoefficients t) (domesticDemands t) pageBudget (n ∷ n ∷ []) in
-      let inducing = inducedReport n (inputCoefficients t) (importCoefficients t) (valueAddedCoefficients t) (finalDemand t) figuresProduction (n ∷ n ∷ []) in
-      firstRefusal (sheets ∷ settling ∷ inducing ∷ []) (roundsOf settling ∷ [])
+      reportFrom t (domesticDemands t) (coefficientsReport t (n * n ∷ n * n ∷ []) (n ∷ n ∷ n ∷ []))

@@ -1,4 +1,5 @@
--- Document 01, "The table file". A file is a list of bytes: a record for n, records for named cells in any order, and an end.
+-- Document 01, "The table file", with kind 10 of document 02, ticket 3. A file is a list of bytes: a record for n, records for named cells in any
+-- order, and an end.
 use mathlib.Core.Bool.{Bool, true, false, _&&_, _||_, cond}
 use mathlib.Core.List.{List, [], _∷_, _++_}
 use Prim.Native.Nat.{ℕ, zero, suc, _+_, _*_, _-_, _/_, _%_, _<_}
@@ -11,7 +12,7 @@ use Rattle.model.specs.declared.TableRead.{TableRead}
 use Rattle.model.specs.declared.TableRead.the-variants.{Read, Refused}
 
 -- A named cell, by the bit that marks it: "a row's named cells are marked as bits of one 64-bit word". Words 0 to 39 are for the rows of x, and a
--- position is a column; the words from 40 on are for F, E, M, V, X and the rises, and a position is a sector
+-- position is a column; the words from 40 on are for the columns in the order of their kinds, and a position is a sector
 pub record Entry : Type 0 where
   pub word : ℕ
   pub position : ℕ
@@ -20,26 +21,32 @@ pub record Entry : Type 0 where
 -- ---- the format: a record and its bytes
 -- bytes of a record by its kind, the kind byte counted; 0 where there is no such kind
 abbrev pub recordLengths : List ℕ
-recordLengths = 0 ∷ 2 ∷ 7 ∷ 6 ∷ 6 ∷ 6 ∷ 6 ∷ 6 ∷ 1 ∷ 6 ∷ []
+recordLengths = 0 ∷ 2 ∷ 7 ∷ 6 ∷ 6 ∷ 6 ∷ 6 ∷ 6 ∷ 1 ∷ 6 ∷ 6 ∷ []
 
--- "Kinds 3 to 7: F, E, M, V, X in that order. Kind 9", the rises: the kinds of the columns
+-- "Kinds 3 to 7: F, E, M, V, X in that order. Kind 9", the rises, and kind 10, the adjustment item: the kinds of the columns
 abbrev pub columnKinds : List ℕ
-columnKinds = 3 ∷ 4 ∷ 5 ∷ 6 ∷ 7 ∷ 9 ∷ []
+columnKinds = 3 ∷ 4 ∷ 5 ∷ 6 ∷ 7 ∷ 9 ∷ 10 ∷ []
 
--- the word of column c of these, and the words of all: 46
-abbrev pub columnWord : ℕ → ℕ
-columnWord c = sectorLimit + c
-
+-- the words of rows and columns: 47
 abbrev pub wordLimit : ℕ
-wordLimit = columnWord (length columnKinds)
+wordLimit = sectorLimit + length columnKinds
 
--- the cells of all of them, 40 for each: 1,840
+-- the cells of all of them, 40 for each: 1,880
 abbrev pub cellLimit : ℕ
 cellLimit = wordLimit * sectorLimit
 
+-- The columns of a table are F, E, M, V, X, G and the rises: the last two in the other order than their kinds. This is the place of column c among
+-- the kinds, and the column of a place among them
+abbrev pub kindPlace : ℕ → ℕ
+kindPlace = cell (0 ∷ 1 ∷ 2 ∷ 3 ∷ 4 ∷ 6 ∷ 5 ∷ [])
+
+-- the word of column c of a table
+abbrev pub columnWord : ℕ → ℕ
+columnWord c = sectorLimit + kindPlace c
+
 -- the word of a column by its kind
 abbrev pub columnWords : List ℕ
-columnWords = 0 ∷ 0 ∷ 0 ∷ columnWord 0 ∷ columnWord 1 ∷ columnWord 2 ∷ columnWord 3 ∷ columnWord 4 ∷ 0 ∷ columnWord 5 ∷ []
+columnWords = 0 ∷ 0 ∷ 0 ∷ columnWord 0 ∷ columnWord 1 ∷ columnWord 2 ∷ columnWord 3 ∷ columnWord 4 ∷ 0 ∷ columnWord 6 ∷ columnWord 5 ∷ []
 
 -- e names a cell that a table of n sectors has
 pub record Within (n : ℕ) (e : Entry) : Type 0 where
@@ -66,7 +73,7 @@ encodeAll (e ∷ es) = encode e ++ encodeAll es
 unfoldable pub fileOf : ℕ → List Entry → Bytes
 fileOf n es = 1 ∷ n ∷ (encodeAll es ++ (8 ∷ []))
 
--- "No accepted file exceeds 12,643 bytes": kind 1, a record of 7 bytes for each cell of x and of 6 for each cell of a column, and kind 8
+-- The longest accepted file has 12,883 bytes: kind 1, a record of 7 bytes for each cell of x and of 6 for each cell of a column, and kind 8
 abbrev pub fileLimit : ℕ
 fileLimit = 2 + (sheetLimit * 7 + length columnKinds * sectorLimit * 6) + 1
 
@@ -88,7 +95,7 @@ module _ (s : Bytes) (at : ℕ) where
   abbrev pub nextAt : ℕ
   nextAt = at + cell recordLengths kindAt
 
-  -- 11. the kind is 1 to 9, and the body is whole
+  -- 11. the kind is 1 to 10, and the body is whole
   unfoldable pub wholeAt : Bool
   wholeAt = leb 1 (cell recordLengths kindAt) && leb nextAt (length s)
 
@@ -110,12 +117,12 @@ abbrev pub namedBefore : List Entry → Entry → Bool
 namedBefore [] e = false
 namedBefore (f ∷ es) e = eqb (f .word) (e .word) && eqb (f .position) (e .position) || namedBefore es e
 
--- ---- the marks of named cells: 46 words
+-- ---- the marks of named cells: 47 words
 -- "A row's named cells are marked as bits of one 64-bit word": the bit of a cell is set
 unfoldable pub marked : (marks : Cells) (word position : ℕ) → Bool
 marked marks word position = eqb (bit (cell marks word) position) 1
 
--- document 01, "The shape of each place": "The reader's named-cell total sums the ones of 46 mark words"
+-- document 01, "The shape of each place": "The reader's named-cell total sums the ones of" the mark words
 unfoldable pub markTotal : Cells → ℕ
 markTotal marks = sum wordLimit (λ w. setPositions (cell marks w))
 
@@ -178,7 +185,7 @@ module _ (k n : ℕ) (es : List Entry) where
   tableNamed = tableOf n (take (n * n) (flowsOf n es)) (tabulateCells k cellsRead)
 
 -- ---- the reader's call
--- 2. "1,600 cells for x, 40 for each of six columns, 46 work words": by the lengths of the lent slices
+-- 2. "1,600 cells for x, 40 for each" of seven columns, and 47 work words: by the lengths of the lent slices
 abbrev pub fits : (x : ℕ) (columns : List ℕ) (marks : ℕ) → Bool
 fits x columns marks = eqb sheetLimit x && all (eqb sectorLimit) columns && eqb wordLimit marks
 

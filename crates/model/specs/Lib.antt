@@ -11,4 +11,5 @@ pub mod Writer
 pub mod Text
 pub mod Figures
 pub mod Page
+pub mod Unadjusted
 pub mod Contracts

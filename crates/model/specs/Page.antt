@@ -8,7 +8,7 @@ use Rattle.model.specs.Numbers.{Cells, cell}
 use Rattle.model.specs.Table.{Table, sectorLimit}
 use Rattle.model.specs.Checks.{Report, roundsOf, verdict, single}
 use Rattle.model.specs.Calls.{domesticDemands}
-use Rattle.model.specs.Figures.{figuresProduction, figuresValue, figuresImports, figuresReport}
+use Rattle.model.specs.Figures.{productionFrom, valueFrom, importsFrom, figuresReport}
 use Rattle.model.specs.File.{Entry, Reading, reading, tableNamed}
 use Rattle.model.specs.Bytes.{Bytes, bytes, padded}
 use Rattle.model.specs.Text.{decimal, line}
@@ -44,17 +44,18 @@ sheet n demand production value imports rounds =
     line headings ++ (linesTo n (sectorLine demand production value imports) ++ roundsLine rounds)
 
 -- ---- the page of a table: the first refusal of its calls, or the sheet of its figures
+-- of a demand f for domestic goods, where the calls report r
+abbrev pub pageFrom : Table → (f : Cells) → Report → Bytes
+pageFrom t f r = orRefusal r (sheet (t .sectors) f (productionFrom t f) (valueFrom t f) (importsFrom t f) (roundsOf r))
+
 unfoldable pub tablePage : Table → Bytes
 unfolding refusalLine sheet figuresReport
-tablePage t =
-    let r = figuresReport t in
-    let printed = sheet (t .sectors) (domesticDemands t) (figuresProduction t) (figuresValue t) (figuresImports t) (roundsOf r) in
-    orRefusal r printed
+tablePage t = pageFrom t (domesticDemands t) (figuresReport t)
 
 -- ---- the page of a file
--- the table that a reading names: F, E, M, V and X are its first columns
+-- the table that a reading names: F, E, M, V, X and G are its first columns
 abbrev pub tableRead : ℕ → List Entry → Table
-tableRead = tableNamed 5
+tableRead = tableNamed 6
 
 -- the page of a reading: a file's own refusals too are one line
 abbrev pub readingPage : Reading → Bytes

@@ -32,7 +32,7 @@ module _ (t : Table) where
   abbrev pub column : ℕ → Cells
   column c = getD (t .columns) c []
 
-  -- by their names: F, E, M, V and X
+  -- by their names: F, E, M, V, X, and G, the adjustment item of document 02, ticket 3
   abbrev pub finalDemand : Cells
   finalDemand = column 0
 
@@ -48,6 +48,13 @@ module _ (t : Table) where
   abbrev pub production : Cells
   production = column 4
 
+  abbrev pub adjustment : Cells
+  adjustment = column 5
+
+  -- E(i) + G(i), which come in whole
+  abbrev pub adjustedExports : ℕ → ℕ
+  adjustedExports i = cell exports i + cell adjustment i
+
 -- part of whole, in millionths
 abbrev pub share : ℕ → ℕ → ℕ
 share part whole = part * one / whole
@@ -56,7 +63,7 @@ share part whole = part * one / whole
 abbrev pub portion : ℕ → ℕ → ℕ
 portion m amount = m * amount / one
 
--- Domestic need of sector i: what all sectors buy of it, and final demand; exports are not in it
+-- Domestic need of sector i: what all sectors buy of it, and final demand; exports are not in it, nor is the adjustment item
 unfoldable pub absorption : (n : ℕ) (x F : Cells) → ℕ → ℕ
 absorption n x F i = sum n (at n x i) + cell F i
 
@@ -84,6 +91,6 @@ module _ (t : Table) where
   unfoldable pub domesticCoefficient : Sheet
   domesticCoefficient i j = portion (one - importCoefficient i) (inputCoefficient i j)
 
-  -- Demand for domestic goods f(i): exports come in whole
+  -- Demand for domestic goods f(i): exports come in whole, and the adjustment item "is added whole to f"
   unfoldable pub domesticDemand : ℕ → ℕ
-  domesticDemand i = portion (one - importCoefficient i) (cell (finalDemand t) i) + cell (exports t) i
+  domesticDemand i = portion (one - importCoefficient i) (cell (finalDemand t) i) + adjustedExports t i

@@ -1,4 +1,4 @@
--- Document 02, ticket 1: a table written as a file, the form of such a file, and what reading it returns.
+-- Document 02, ticket 1: a table written as a file, the form of such a file, and what reading it returns. Ticket 3: "the archive rule covers G".
 use mathlib.Core.Bool.{true, cond}
 use mathlib.Core.List.{List, [], _∷_, _++_, map}
 use mathlib.Core.Path.{_≡_}
@@ -6,10 +6,10 @@ use Prim.Native.Nat.{ℕ, suc, _+_, _*_, _≤_, _<_}
 use lib.Dec.{eqb}
 use lib.ListN.{length, take, drop}
 use Rattle.model.specs.Numbers.{Cells, tabulateCells}
-use Rattle.model.specs.Table.{Table, tableOf, sectorLimit, fewSectors}
+use Rattle.model.specs.Table.{Table, tableOf, column, sectorLimit, fewSectors}
 use Rattle.model.specs.Bytes.{Bytes, padded}
 use Rattle.model.specs.Checks.{Report, Check, verdict, single, size, lengths, tableAmounts}
-use Rattle.model.specs.File.{Entry, Within, fileOf, fileLimit, columnKinds, Reading, tableNamed}
+use Rattle.model.specs.File.{Entry, Within, fileOf, fileLimit, columnKinds, kindPlace, Reading, tableNamed}
 
 -- ---- the file of a table
 -- The cells of a word from a position on, "zeros left out"
@@ -28,9 +28,13 @@ wordsEntries word (s ∷ ss) = wordEntries word 0 s ++ wordsEntries (word + 1) s
 abbrev pub rows : (n : ℕ) → Cells → List Cells
 rows n x = tabulateCells n (λ i. take n (drop (i * n) x))
 
--- "cells in ascending kind, row and column, zeros left out": the rows of x, then the columns in the order of their kinds
+-- the columns in the order of their kinds: G is "written after the rises"
+abbrev pub columnsByKind : Table → List Cells
+columnsByKind t = tabulateCells (length columnKinds) (λ k. column t (kindPlace k))
+
+-- "cells in ascending kind, row and column, zeros left out": the rows of x, then the columns
 unfoldable pub tableEntries : Table → List Entry
-tableEntries t = wordsEntries 0 (rows (t .sectors) (t .flows)) ++ wordsEntries sectorLimit (t .columns)
+tableEntries t = wordsEntries 0 (rows (t .sectors) (t .flows)) ++ wordsEntries sectorLimit (columnsByKind t)
 
 -- "kind 1, then cells …, then kind 8"
 unfoldable pub written : Table → Bytes
@@ -38,7 +42,7 @@ unfolding tableEntries fileOf
 written t = fileOf (t .sectors) (tableEntries t)
 
 -- ---- the call that writes it
--- "lent exactly 12,643 bytes for the file", and "the bytes after it are 0"
+-- "lent exactly" 12,883 bytes "for the file", and "the bytes after it are 0"
 unfoldable pub fileBytes : Table → Bytes
 unfolding written
 fileBytes t = padded fileLimit (written t)

@@ -21,13 +21,13 @@ pub const RISE_LIMIT: u64 = 1_000_000_000;
 pub const PRODUCTION_LIMIT: u64 = 1_600_000_000_000;
 
 // A table file: its columns, the words that mark its rows and columns, and the cells of all of them (`columnKinds`, `wordLimit`, `cellLimit`).
-pub const COLUMNS: usize = 6;
+pub const COLUMNS: usize = 7;
 
 pub const WORDS: usize = SECTORS + COLUMNS;
 
 pub const CELLS: usize = WORDS * SECTORS;
 
-// Where its columns begin among these cells, after those of x.
+// Where its columns begin among these cells, after those of x, in the order of their kinds.
 pub const FINAL_DEMAND: usize = SHEET;
 
 pub const EXPORTS: usize = FINAL_DEMAND + SECTORS;
@@ -39,6 +39,8 @@ pub const VALUE_ADDED: usize = IMPORTS + SECTORS;
 pub const PRODUCTION: usize = VALUE_ADDED + SECTORS;
 
 pub const RISES: usize = PRODUCTION + SECTORS;
+
+pub const ADJUSTMENT: usize = RISES + SECTORS;
 
 // The bytes of the longest table file (`fileLimit`).
 pub const FILE: usize = 2 + (SHEET * 7 + COLUMNS * SECTORS * 6) + 1;

@@ -16,6 +16,7 @@ use Rattle.model.specs.Page.{refusalLine, sheet, tableRead, tablePage, readingP
 use Rattle.model.specs.declared.TableRead.{TableRead}
 use Rattle.theory_files.specs.Files.{inputLimit}
 use Rattle.theory_pages.proofs.Pages.{written, unwritten}
+use Rattle.theory_files.proofs.RecordKinds.{place-back}
 use Rattle.theory_files.proofs.Readings.{Answered, reading-answered}
 use Rattle.file_walk.specs.Steps.{Held}
 use Rattle.page_sheets.specs.Sheets.{columnStart, tableIn}
@@ -77,7 +78,7 @@ read-small s e = subst Small (sym e) (answer-small (reading s) inputLimit (readi
 -- the table that lies in the cells is the one that the file names
 table-held : (n : ℕ) (es : List Entry) (cells : List ℕ) → n ≤ sectorLimit → Held (Reading.table n es) cells → tableIn n cells ≡ tableRead n es
 table-held n es cells few h =
-    rw (flows, column 0 (lit< tt), column 1 (lit< tt), column 2 (lit< tt), column 3 (lit< tt), column 4 (lit< tt)) refl
+    rw (flows, column 0 (lit< tt), column 1 (lit< tt), column 2 (lit< tt), column 3 (lit< tt), column 4 (lit< tt), column 5 (lit< tt)) refl
   where
     flows : take (n * n) cells ≡ take (n * n) (flowsOf n es)
     flows = sym (take-take (n * n) sheetLimit cells (mul-le-mul few few)) ∙ ap (λ (l : List ℕ). take (n * n) l) (h .flows)
@@ -85,7 +86,7 @@ table-held n es cells few h =
     column : (c : ℕ) → c < length columnKinds → take n (drop (columnStart c) cells) ≡ take n (columnOf (columnWord c) es)
     column c few-columns =
         sym (take-take n sectorLimit (drop (columnStart c) cells) few)
-        ∙ ap (λ (l : List ℕ). take n l) (h .columns (columnWord c) (omega arith) (omega arith))
+        ∙ ap (λ (l : List ℕ). take n l) (h .columns (columnWord c) (omega arith) (omega (arith, place-back c few-columns .0)))
 
 answer-page : (o : Reading) (most : ℕ) (cells : List ℕ) → Answered most o → Held o cells → pageOf (answerOf o) cells ≡ readingPage o
 answer-page (Reading.refused q p) most cells a h = refl

@@ -41,13 +41,13 @@ abbrev lentColumn : ℕ → List ℕ → ℕ → List ℕ
 lentColumn n cells c = take (columnStart c + n - columnStart c) (drop (columnStart c) cells)
 
 abbrev pub lentTable : ℕ → List ℕ → Table
-lentTable n cells = tableOf n (take (n * n - 0) cells) (map (lentColumn n cells) (0 ∷ 1 ∷ 2 ∷ 3 ∷ 4 ∷ []))
+lentTable n cells = tableOf n (take (n * n - 0) cells) (map (lentColumn n cells) (0 ∷ 1 ∷ 2 ∷ 3 ∷ 4 ∷ 5 ∷ []))
 
 pub table-cut : (n : ℕ) (cells : List ℕ) {r : Report} {a v m d f : List ℕ} → Sheets (lentTable n cells) r a v m d f → Sheets (tableIn n cells) r a v m d f
 table-cut n cells {r} {a} {v} {m} {d} {f} w =
     let square : n * n - 0 ≡ n * n = omega arith in
     let same : lentTable n cells ≡ tableIn n cells =
-    rw (square, cut 0, cut 1, cut 2, cut 3, cut 4) refl in
+    rw (square, cut 0, cut 1, cut 2, cut 3, cut 4, cut 5) refl in
     subst (λ (t : Table). Sheets t r a v m d f) same w
   where
     cut : (c : ℕ) → lentColumn n cells c ≡ take n (drop (columnStart c) cells)

@@ -15,7 +15,7 @@ abbrev pub columnStart : ℕ → ℕ
 columnStart c = columnWord c * sectorLimit
 
 abbrev pub tableIn : ℕ → Cells → Table
-tableIn n cells = tableOf n (take (n * n) cells) (map (λ (c : ℕ). take n (drop (columnStart c) cells)) (0 ∷ 1 ∷ 2 ∷ 3 ∷ 4 ∷ []))
+tableIn n cells = tableOf n (take (n * n) cells) (map (λ (c : ℕ). take n (drop (columnStart c) cells)) (0 ∷ 1 ∷ 2 ∷ 3 ∷ 4 ∷ 5 ∷ []))
 
 -- the sheets of a table
 abbrev pub sheetsReport : Table → Report

@@ -1,6 +1,7 @@
-// The first call on the way to a printed sheet: the sheets of a table. The table lies in one slice of 1,840 cells, as the walk over a table file
+// The first call on the way to a printed sheet: the sheets of a table. The table lies in one slice of 1,880 cells, as the walk over a table file
 // leaves it: x row by row from cell 0 on, and a column every 40 cells from cell 1,600 on.
 use coefficients::coefficients;
+use model::ADJUSTMENT;
 use model::Answer;
 use model::EXPORTS;
 use model::FINAL_DEMAND;
@@ -38,6 +39,7 @@ pub fn fill_coefficients(
         &cells[IMPORTS..IMPORTS + n],
         &cells[VALUE_ADDED..VALUE_ADDED + n],
         &cells[PRODUCTION..PRODUCTION + n],
+        &cells[ADJUSTMENT..ADJUSTMENT + n],
         a,
         v,
         m,

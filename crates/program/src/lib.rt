@@ -1,4 +1,4 @@
-// What the program `roadsheet` does: a table file from standard input, its page to standard output. 12,649 bytes always decide the page
+// What the program `roadsheet` does: a table file from standard input, its page to standard output. 12,889 bytes always decide the page
 // (`prefix-prints`), so input beyond the buffer cannot change it.
 use libc::STDIN_FILENO;
 use libc::STDOUT_FILENO;

@@ -10,7 +10,7 @@ ghost use Prim.Native.Nat.{ℕ, _+_, _*_, _<_, _≤_};
 ghost use lib.ListN.{length};
 ghost use Rattle.model.specs.Numbers.{cell};
 ghost use Rattle.model.specs.Table.{absorption, tableOf, sectorLimit};
-ghost use Rattle.model.specs.Checks.{amountLimit, balanceChecks, columnBalances, importsCovered, lengths, report, rowBalances, size, tableAmounts, verdict};
+ghost use Rattle.model.specs.Checks.{amountLimit, balanceChecks, columnBalances, exportsWithin, importsCovered, lengths, report, rowBalances, size, tableAmounts, verdict};
 ghost use Rattle.theory.specs.Slices.{Columns, Each};
 ghost use Rattle.theory_tables.specs.Tables.{TableAmounts, TableSizes};
 
@@ -37,9 +37,10 @@ pub fn check_amounts(
     imports: &[u64],
     value_added: &[u64],
     production: &[u64],
+    adjustment: &[u64],
 ) -> Answer
     requires { ⌜ length (now x) ≡ n * n ⌝ }
-    ensures { λ r. ⌜ report r ≡ verdict (tableAmounts (tableOf n (now (x .entry)) (now («final_demand» .entry) ∷ now (exports .entry) ∷ now (imports .entry) ∷ now («value_added» .entry) ∷ now (production .entry) ∷ []))) [] ⌝ }
+    ensures { λ r. ⌜ report r ≡ verdict (tableAmounts (tableOf n (now (x .entry)) (now («final_demand» .entry) ∷ now (exports .entry) ∷ now (imports .entry) ∷ now («value_added» .entry) ∷ now (production .entry) ∷ now (adjustment .entry) ∷ []))) [] ⌝ }
 {
     let limit = AMOUNT_LIMIT;
     let flows = matrix_within(n, x, limit);
@@ -52,7 +53,26 @@ pub fn check_amounts(
     let from_values = from_imports + imports.len();
     let values = next_within(imported, from_values, limit, value_added);
     let from_production = from_values + value_added.len();
-    next_within(values, from_production, limit, production)
+    let made = next_within(values, from_production, limit, production);
+    let from_adjustment = from_production + production.len();
+    next_within(made, from_adjustment, limit, adjustment)
+}
+
+// Question 16: are a sector's exports with its adjustment item within the limit of amounts?
+fn exports_within(n: usize, exports: &[u64], adjustment: &[u64]) -> Answer
+    requires { ⌜ (length (now exports) ≡ n) × (length (now adjustment) ≡ n) ⌝ }
+    requires { ⌜ ((k : ℕ) → (cell (now exports) k ≤ amountLimit) × (cell (now adjustment) k ≤ amountLimit)) ⌝ }
+    ensures { λ r. ⌜ report r ≡ verdict (exportsWithin (tableOf n [] ([] ∷ now (exports .entry) ∷ [] ∷ [] ∷ [] ∷ now (adjustment .entry) ∷ [])) ∷ []) [] ⌝ }
+{
+    for i in 0..n {
+        if AMOUNT_LIMIT < exports[i] + adjustment[i] {
+            return Answer::Refused {
+                number: 16,
+                place: i,
+            };
+        }
+    }
+    Answer::Accepted
 }
 
 // Question 4: does every column balance? The column is left at its end.
@@ -89,16 +109,17 @@ fn rows_balance(
     exports: &[u64],
     imports: &[u64],
     production: &[u64],
+    adjustment: &[u64],
 ) -> Answer
-    requires { ⌜ (n ≤ sectorLimit) × (length (now x) ≡ n * n) × (length (now «final_demand») ≡ n) × (length (now exports) ≡ n) × (length (now imports) ≡ n) × (length (now production) ≡ n) ⌝ }
+    requires { ⌜ (n ≤ sectorLimit) × (length (now x) ≡ n * n) × (length (now «final_demand») ≡ n) × (length (now exports) ≡ n) × (length (now imports) ≡ n) × (length (now production) ≡ n) × (length (now adjustment) ≡ n) ⌝ }
     requires { ⌜ ((k : ℕ) → cell (now x) k ≤ amountLimit) ⌝ }
     requires { ⌜ ((k : ℕ) → cell (now «final_demand») k ≤ amountLimit) ⌝ }
-    requires { ⌜ ((k : ℕ) → (cell (now exports) k ≤ amountLimit) × (cell (now imports) k ≤ amountLimit) × (cell (now production) k ≤ amountLimit)) ⌝ }
-    ensures { λ r. ⌜ report r ≡ verdict (rowBalances (tableOf n (now (x .entry)) (now («final_demand» .entry) ∷ now (exports .entry) ∷ now (imports .entry) ∷ [] ∷ now (production .entry) ∷ [])) ∷ []) [] ⌝ }
+    requires { ⌜ ((k : ℕ) → (cell (now exports) k ≤ amountLimit) × (cell (now imports) k ≤ amountLimit) × (cell (now production) k ≤ amountLimit) × (cell (now adjustment) k ≤ amountLimit)) ⌝ }
+    ensures { λ r. ⌜ report r ≡ verdict (rowBalances (tableOf n (now (x .entry)) (now («final_demand» .entry) ∷ now (exports .entry) ∷ now (imports .entry) ∷ [] ∷ now (production .entry) ∷ now (adjustment .entry) ∷ [])) ∷ []) [] ⌝ }
 {
     for i in 0..n {
         let need = need_of(n, x, final_demand, i);
-        if need + exports[i] != production[i] + imports[i] {
+        if need + (exports[i] + adjustment[i]) != production[i] + imports[i] {
             return Answer::Refused {
                 number: 5,
                 place: i,
@@ -127,7 +148,7 @@ fn imports_covered(n: usize, x: &[u64], final_demand: &[u64], imports: &[u64]) -
     Answer::Accepted
 }
 
-// Questions 3 to 6, of a table whose slices have their lengths.
+// Questions 3, 16 and 4 to 6, of a table whose slices have their lengths.
 pub fn check_contents(
     n: usize,
     x: &[u64],
@@ -136,10 +157,11 @@ pub fn check_contents(
     imports: &[u64],
     value_added: &[u64],
     production: &[u64],
+    adjustment: &[u64],
 ) -> Answer
-    requires { ⌜ TableSizes (tableOf n (now x) (now «final_demand» ∷ now exports ∷ now imports ∷ now «value_added» ∷ now production ∷ [])) ⌝ }
+    requires { ⌜ TableSizes (tableOf n (now x) (now «final_demand» ∷ now exports ∷ now imports ∷ now «value_added» ∷ now production ∷ now adjustment ∷ [])) ⌝ }
     ensures { λ r. ⌜ (
-        let t = tableOf n (now (x .entry)) (now («final_demand» .entry) ∷ now (exports .entry) ∷ now (imports .entry) ∷ now («value_added» .entry) ∷ now (production .entry) ∷ []) in
+        let t = tableOf n (now (x .entry)) (now («final_demand» .entry) ∷ now (exports .entry) ∷ now (imports .entry) ∷ now («value_added» .entry) ∷ now (production .entry) ∷ now (adjustment .entry) ∷ []) in
         report r ≡ verdict (tableAmounts t ++ balanceChecks t) []) ⌝ }
 {
     let amounts = check_amounts(
@@ -150,22 +172,27 @@ pub fn check_contents(
         imports,
         value_added,
         production,
+        adjustment,
     );
     let Answer::Accepted = amounts else {
         return amounts;
+    };
+    let abroad = exports_within(n, exports, adjustment);
+    let Answer::Accepted = abroad else {
+        return abroad;
     };
     let columns = columns_balance(n, x, value_added, production);
     let Answer::Accepted = columns else {
         return columns;
     };
-    let rows = rows_balance(n, x, final_demand, exports, imports, production);
+    let rows = rows_balance(n, x, final_demand, exports, imports, production, adjustment);
     let Answer::Accepted = rows else {
         return rows;
     };
     imports_covered(n, x, final_demand, imports)
 }
 
-// Questions 1 to 6. The lengths of the table's own slices are among those of the matrices and of the lent slices.
+// Questions 1 to 3, 16 and 4 to 6. The lengths of the table's own slices are among those of the matrices and of the lent slices.
 pub fn check_table(
     n: usize,
     x: &[u64],
@@ -174,13 +201,14 @@ pub fn check_table(
     imports: &[u64],
     value_added: &[u64],
     production: &[u64],
+    adjustment: &[u64],
     matrices: &[usize],
     lent: &[usize],
 ) -> Answer
     requires { ⌜ (Each (n * n) (now matrices) → length (now x) ≡ n * n) ⌝ }
-    requires { ⌜ (Each n (now lent) → Columns n (now «final_demand» ∷ now exports ∷ now imports ∷ now «value_added» ∷ now production ∷ [])) ⌝ }
+    requires { ⌜ (Each n (now lent) → Columns n (now «final_demand» ∷ now exports ∷ now imports ∷ now «value_added» ∷ now production ∷ now adjustment ∷ [])) ⌝ }
     ensures { λ r. ⌜ (
-        let t = tableOf n (now (x .entry)) (now («final_demand» .entry) ∷ now (exports .entry) ∷ now (imports .entry) ∷ now («value_added» .entry) ∷ now (production .entry) ∷ []) in
+        let t = tableOf n (now (x .entry)) (now («final_demand» .entry) ∷ now (exports .entry) ∷ now (imports .entry) ∷ now («value_added» .entry) ∷ now (production .entry) ∷ now (adjustment .entry) ∷ []) in
         report r ≡ verdict (size n ∷ lengths n (now (matrices .entry)) (now (lent .entry)) ∷ tableAmounts t ++ balanceChecks t) []) ⌝ }
 {
     let sizes = check_sizes(n, matrices, lent);
@@ -195,5 +223,6 @@ pub fn check_table(
         imports,
         value_added,
         production,
+        adjustment,
     )
 }

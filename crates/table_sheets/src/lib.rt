@@ -63,16 +63,23 @@ fn fill_domestic(n: usize, a: &[u64], m: &[u64], d: &mut [u64])
     }
 }
 
-// Demand for domestic goods: what is not imported of final demand, and exports whole.
-fn fill_demand(n: usize, m: &[u64], final_demand: &[u64], exports: &[u64], f: &mut [u64])
-    requires { ⌜ (length (now m) ≡ n) × (length (now «final_demand») ≡ n) × (length (now exports) ≡ n) × (length (now f) ≡ n) ⌝ }
+// Demand for domestic goods: what is not imported of final demand, and exports and the adjustment item whole.
+fn fill_demand(
+    n: usize,
+    m: &[u64],
+    final_demand: &[u64],
+    exports: &[u64],
+    adjustment: &[u64],
+    f: &mut [u64],
+)
+    requires { ⌜ (length (now m) ≡ n) × (length (now «final_demand») ≡ n) × (length (now exports) ≡ n) × (length (now adjustment) ≡ n) × (length (now f) ≡ n) ⌝ }
     requires { ⌜ ((k : ℕ) → k < n → cell (now m) k ≤ one) ⌝ }
-    requires { ⌜ ((k : ℕ) → (cell (now «final_demand») k ≤ amountLimit) × (cell (now exports) k ≤ amountLimit)) ⌝ }
-    ensures { λ _. ⌜ now (f .exit) ≡ tabulate n (λ i. portion (one - cell (now (m .entry)) i) (cell (now («final_demand» .entry)) i) + cell (now (exports .entry)) i) ⌝ }
+    requires { ⌜ ((k : ℕ) → (cell (now «final_demand») k ≤ amountLimit) × (cell (now exports) k ≤ amountLimit) × (cell (now adjustment) k ≤ amountLimit)) ⌝ }
+    ensures { λ _. ⌜ now (f .exit) ≡ tabulate n (λ i. portion (one - cell (now (m .entry)) i) (cell (now («final_demand» .entry)) i) + (cell (now (exports .entry)) i + cell (now (adjustment .entry)) i)) ⌝ }
 {
     for i in 0..n {
         let domestic = portion_of(ONE - m[i], final_demand[i]);
-        f[i] = domestic + exports[i];
+        f[i] = domestic + (exports[i] + adjustment[i]);
     }
 }
 
@@ -83,18 +90,19 @@ pub fn finish(
     m: &[u64],
     final_demand: &[u64],
     exports: &[u64],
+    adjustment: &[u64],
     d: &mut [u64],
     f: &mut [u64],
 ) -> Answer
-    requires { ⌜ (1 ≤ n) × (n ≤ sectorLimit) × (length (now a) ≡ n * n) × (length (now m) ≡ n) × (length (now «final_demand») ≡ n) × (length (now exports) ≡ n) × (length (now d) ≡ n * n) × (length (now f) ≡ n) ⌝ }
+    requires { ⌜ (1 ≤ n) × (n ≤ sectorLimit) × (length (now a) ≡ n * n) × (length (now m) ≡ n) × (length (now «final_demand») ≡ n) × (length (now exports) ≡ n) × (length (now adjustment) ≡ n) × (length (now d) ≡ n * n) × (length (now f) ≡ n) ⌝ }
     requires { ⌜ ((k : ℕ) → k < n * n → cell (now a) k ≤ one) ⌝ }
     requires { ⌜ ((k : ℕ) → k < n → cell (now m) k ≤ one) ⌝ }
-    requires { ⌜ ((k : ℕ) → (cell (now «final_demand») k ≤ amountLimit) × (cell (now exports) k ≤ amountLimit)) ⌝ }
+    requires { ⌜ ((k : ℕ) → (cell (now «final_demand») k ≤ amountLimit) × (cell (now exports) k ≤ amountLimit) × (cell (now adjustment) k ≤ amountLimit)) ⌝ }
     ensures { λ r. ⌜ report r ≡ verdict (columnSums n (at n (now (d .exit))) ∷ []) [] ⌝ }
     ensures { λ _. ⌜ now (d .exit) ≡ matrix n (λ i j. portion (one - cell (now (m .entry)) i) (at n (now (a .entry)) i j)) ⌝ }
-    ensures { λ _. ⌜ now (f .exit) ≡ tabulate n (λ i. portion (one - cell (now (m .entry)) i) (cell (now («final_demand» .entry)) i) + cell (now (exports .entry)) i) ⌝ }
+    ensures { λ _. ⌜ now (f .exit) ≡ tabulate n (λ i. portion (one - cell (now (m .entry)) i) (cell (now («final_demand» .entry)) i) + (cell (now (exports .entry)) i + cell (now (adjustment .entry)) i)) ⌝ }
 {
     fill_domestic(n, a, m, d);
-    fill_demand(n, m, final_demand, exports, f);
+    fill_demand(n, m, final_demand, exports, adjustment, f);
     columns_within(n, d)
 }

@@ -111,6 +111,20 @@ pass-on [] qs ks p = refl
 pass-on (q ∷ ps) qs ks p =
     passed q (ps ++ qs) ks (q .places) (le-refl (q .places)) (p .0) ∙ pass-on ps qs ks (p .1)
 
+-- a check that passes wherever those before it pass need not be asked
+pub passed-after : (ps : List Check) (q : Check) (qs : List Check) (ks : List ℕ) → (AllPass ps → Passes q) → verdict (ps ++ (q ∷ qs)) ks ≡ verdict (ps ++ qs) ks
+passed-after [] q qs ks h = passed q qs ks (q .places) (le-refl (q .places)) (h tt)
+passed-after (p ∷ ps) q qs ks h = split (ltb place (p .places)) refl (λ a. passed-after ps q qs ks (λ b. h (a, b)))
+  where
+    place : ℕ
+    place = first (p .places) (p .passes)
+
+    split : (t : Bool) → ltb place (p .places) ≡ t → (Passes p → verdict (ps ++ (q ∷ qs)) ks ≡ verdict (ps ++ qs) ks)
+        → cond t (refuses (length ks) (p .number) (p .offset + place)) (verdict (ps ++ (q ∷ qs)) ks)
+        ≡ cond t (refuses (length ks) (p .number) (p .offset + place)) (verdict (ps ++ qs) ks)
+    split true e more = refl
+    split false e more = more (λ i h. first-before (p .places) (p .passes) i (lt-of-lt-of-le h (ltb-false place (p .places) e)))
+
 -- and where all pass the call is accepted
 pub all-accepted : (qs : List Check) (ks : List ℕ) → AllPass qs → verdict qs ks ≡ accepts ks
 all-accepted [] ks p = refl

@@ -52,7 +52,7 @@ module _ (n : ℕ) (es : List Entry) (some : 1 ≤ n) (few : n ≤ sectorLimit) 
       ap (fileOf n) (told n few 0 es (tableEntries t) ascends (entries-ascending t f) (same n few es (tableEntries t) t refl form-hold (entries-hold t f)))
 
 -- ---- the file of a table
--- the offset at which a reading found kind 8 to end, of 12,643 bytes
+-- the offset at which a reading found kind 8 to end, of 12,883 bytes
 abbrev endOf : Reading → ℕ
 endOf (Reading.refused q p) = p
 endOf (Reading.table n es) = fileLimit
@@ -77,7 +77,7 @@ module _ (t : Table) (f : Fit t) where
       ∙ table-same (t .sectors) _ (t .flows) _ (t .columns) es (named-fit (t .sectors) (f .sizes .some) (f .sizes .few) (reverse es)) f
       (form-hold (t .sectors) es (f .sizes .some) (f .sizes .few) (entries-ascending t f)) (entries-hold t f)
 
-  -- Theorem, for the reader: it never exceeds 12,643 bytes
+  -- Theorem, for the reader: it never exceeds 12,883 bytes
   pub written-fits : length (written t) ≤ fileLimit
   written-fits = accepted-length (written t) (t .sectors) (reverse (tableEntries t)) written-read
 
@@ -240,10 +240,10 @@ module _ (n : ℕ) (s : Slices) (f : Fit (tableFrom n s)) (s₀ s′ : Slices) (
     pub read-returns : tableOf n (take (n * n) (s′ .flows)) (map (take n) (columnsOf s′)) ≡ tableFrom n s
     read-returns =
         let d = subst (λ (o : Reading). Delivered o s₀ s′) reading-into (reads .delivered) in
-        rw (d .flows, d .finalDemand, d .exports, d .imports, d .valueAdded, d .production, d .rises)
+        rw (d .flows, d .finalDemand, d .exports, d .imports, d .valueAdded, d .production, d .adjustment, d .rises)
         (ap returned (sym (written-read (tableFrom n s) f)) ∙ written-returns (tableFrom n s) f)
 
--- Theorem, for the reader: the 12,643 lent bytes as a whole are no table file, unless the file fills them: bytes follow its end
+-- Theorem, for the reader: the 12,883 lent bytes as a whole are no table file, unless the file fills them: bytes follow its end
 pub bytes-follow : (t : Table) → Fit t → length (written t) < fileLimit → reading (fileBytes t) ≡ Reading.refused 15 (length (written t))
 bytes-follow t f h = bytes-read t f ∙ follow (fileLimit - length (written t)) (omega arith)
   where

@@ -11,13 +11,14 @@ use lib.ListN.{length, getD, take}
 use lib.Seq.{length-take-le, getD-take, ext-getD}
 use Rattle.model.specs.Numbers.{cell, at}
 use Rattle.model.specs.Table.{Table, tableOf, column, sectorLimit, sheetLimit}
-use Rattle.model.specs.File.{Entry, Within, columnKinds, columnWord, flowsOf, columnOf, tableNamed}
-use Rattle.model.specs.Writer.{rows, wordsEntries, tableEntries, order, Ascending}
+use Rattle.model.specs.File.{Entry, Within, columnKinds, kindPlace, columnWord, flowsOf, columnOf, tableNamed}
+use Rattle.model.specs.Writer.{rows, wordsEntries, columnsByKind, tableEntries, order, Ascending}
 use Rattle.theory.specs.Slices.{Columns}
 use Rattle.theory.proofs.Lists.{slice-made}
 use Rattle.theory.proofs.Matrices.{place-once, place-row, place-column, place-cell}
 use Rattle.theory.proofs.Sums.{cell-in}
 use Rattle.theory_tables.specs.Tables.{TableSizes}
+use Rattle.theory_files.proofs.RecordKinds.{place-back}
 use Rattle.theory_files.proofs.Encoding.{made}
 use Rattle.theory_files.proofs.Readings.{AllWithin, Distinct}
 use Rattle.theory_archives.proofs.Ascending.{amountAt, amount-append, amount-reversed, from-lower, Same}
@@ -50,21 +51,28 @@ module _ (t : Table) (f : Fit t) where
   rows-known : (w : ℕ) → w < n → Known n w
   rows-known w h = (omega (arith, few), λ _. h)
 
-  columns-known : (w : ℕ) → sectorLimit ≤ w → w < sectorLimit + length (t .columns) → Known n w
-  columns-known w h l = (omega (arith, f .count), λ g. absurd (omega arith))
+  -- the columns in the order of their kinds
+  by-kind : (k : ℕ) → k < length columnKinds → getD (columnsByKind t) k [] ≡ column t (kindPlace k)
+  by-kind = slice-made (length columnKinds) (λ k. column t (kindPlace k))
 
-  columns-ascending : Ascending n (sectorLimit * sectorLimit) (wordsEntries sectorLimit (t .columns))
+  by-kind-long : Columns n (columnsByKind t)
+  by-kind-long k h = ap length (by-kind k h) ∙ f .sizes .columns (kindPlace k) (subst (λ (m : ℕ). kindPlace k < m) (sym (f .count)) (place-back k h .0))
+
+  columns-known : (w : ℕ) → sectorLimit ≤ w → w < sectorLimit + length columnKinds → Known n w
+  columns-known w h l = (omega arith, λ g. absurd (omega arith))
+
+  columns-ascending : Ascending n (sectorLimit * sectorLimit) (wordsEntries sectorLimit (columnsByKind t))
   columns-ascending =
-      subst (Ascending n (sectorLimit * sectorLimit)) (append-nil (wordsEntries sectorLimit (t .columns)))
-      (words-ascending n few sectorLimit (t .columns) (f .sizes .columns) columns-known [] tt)
+      subst (Ascending n (sectorLimit * sectorLimit)) (append-nil (wordsEntries sectorLimit (columnsByKind t)))
+      (words-ascending n few sectorLimit (columnsByKind t) by-kind-long columns-known [] tt)
 
   pub entries-ascending : Ascending n 0 (tableEntries t)
   unfolding tableEntries
   entries-ascending =
       let count = rows-count n (t .flows) in
       let small = few in
-      words-ascending n few 0 flow-rows rows-long (λ w _ h. rows-known w (omega arith)) (wordsEntries sectorLimit (t .columns))
-      (from-lower n few ((0 + length flow-rows) * sectorLimit) (sectorLimit * sectorLimit) (wordsEntries sectorLimit (t .columns)) (omega arith) columns-ascending)
+      words-ascending n few 0 flow-rows rows-long (λ w _ h. rows-known w (omega arith)) (wordsEntries sectorLimit (columnsByKind t))
+      (from-lower n few ((0 + length flow-rows) * sectorLimit) (sectorLimit * sectorLimit) (wordsEntries sectorLimit (columnsByKind t)) (omega arith) columns-ascending)
 
   pub entries-hold : Holds (tableEntries t) t
   unfolding tableEntries
@@ -79,13 +87,17 @@ module _ (t : Table) (f : Fit t) where
             ∙ words-amount n few 0 flow-rows rows-long i j (omega arith)
             ∙ rows-cell n (t .flows) i j h l
             in
-            let away = words-away n few sectorLimit (t .columns) (f .sizes .columns) r (λ w k a b c e. omega arith) in
-            amount-append (wordsEntries 0 flow-rows) (wordsEntries sectorLimit (t .columns)) r ∙ ap₂ _+_ here away ∙ add-zero (at n (t .flows) i j);
+            let away = words-away n few sectorLimit (columnsByKind t) by-kind-long r (λ w k a b c e. omega arith) in
+            amount-append (wordsEntries 0 flow-rows) (wordsEntries sectorLimit (columnsByKind t)) r ∙ ap₂ _+_ here away ∙ add-zero (at n (t .flows) i j);
         columns = λ c j h l.
             let r = columnWord c * sectorLimit + j in
-            let here = words-amount n few sectorLimit (t .columns) (f .sizes .columns) c j (omega arith) in
+            let back = place-back c h in
+            let here : amountAt (wordsEntries sectorLimit (columnsByKind t)) r ≡ cell (column t c) j =
+            words-amount n few sectorLimit (columnsByKind t) by-kind-long (kindPlace c) j (omega arith)
+            ∙ ap (λ (s : List ℕ). cell s j) (by-kind (kindPlace c) (back .0) ∙ ap (column t) (back .1))
+            in
             let away = words-away n few 0 flow-rows rows-long r (λ w k a b g e. omega arith) in
-            amount-append (wordsEntries 0 flow-rows) (wordsEntries sectorLimit (t .columns)) r ∙ ap₂ _+_ away here ∙ zero-add (cell (column t c) j);
+            amount-append (wordsEntries 0 flow-rows) (wordsEntries sectorLimit (columnsByKind t)) r ∙ ap₂ _+_ away here ∙ zero-add (cell (column t c) j);
       }
 
 -- ---- what the reader returns of named cells
@@ -142,7 +154,7 @@ module _ (n : ℕ) (some : 1 ≤ n) (few : n ≤ sectorLimit) where
         (ap (λ (s : List ℕ). cell s j) (column-named (length columnKinds) n es c h)
         ∙ getD-take n (columnOf (columnWord c) es) j 0 l
         ∙ slice-cell n few (columnOf (columnWord c)) (λ w. eqb w (columnWord c)) (λ w p. p) sectorLimit refl (λ e es. refl) (column-inside (columnWord c)) (column-once (columnWord c)) es d a
-        (made (columnWord c) j 0) (record { known = omega arith; row = λ g. absurd (omega arith); place = l }) (eq-eqb (columnWord c) (columnWord c) refl));
+        (made (columnWord c) j 0) (record { known = omega (arith, place-back c h .0); row = λ g. absurd (omega arith); place = l }) (eq-eqb (columnWord c) (columnWord c) refl));
   }
 
 -- ---- cells alike, tables alike
@@ -179,7 +191,7 @@ holds-reversed es t h = record { flows = λ i j l g. back (i * sectorLimit + j) 
 
 -- named cells of one table have the same amounts
 pub same : (n : ℕ) (few : n ≤ sectorLimit) (es fs : List Entry) (t : Table) → t .sectors ≡ n → Holds es t → Holds fs t → Same n few es fs
-same n few es fs t size h k e w = go (ltb (e .word) sectorLimit) refl
+same n few es fs t size h g e w = go (ltb (e .word) sectorLimit) refl
   where
     inside : (i : ℕ) → i < n → i < t .sectors
     inside i l = subst (λ (m : ℕ). i < m) (sym size) l
@@ -188,14 +200,16 @@ same n few es fs t size h k e w = go (ltb (e .word) sectorLimit) refl
     go true l =
         let row = inside (e .word) (w .row (ltb-true (e .word) sectorLimit l)) in
         let col = inside (e .position) (w .place) in
-        h .flows (e .word) (e .position) row col ∙ sym (k .flows (e .word) (e .position) row col)
+        h .flows (e .word) (e .position) row col ∙ sym (g .flows (e .word) (e .position) row col)
     go false l =
         let low = ltb-false (e .word) sectorLimit l in
         let high = w .known in
-        let c = e .word - sectorLimit in
-        let word : columnWord c ≡ e .word = omega arith in
+        let k = e .word - sectorLimit in
+        let c = kindPlace k in
+        let back = place-back k (omega arith) in
+        let word : columnWord c ≡ e .word = omega (arith, back .1) in
         let col = inside (e .position) (w .place) in
         ap (λ (v : ℕ). amountAt es (v * sectorLimit + e .position)) (sym word)
-        ∙ h .columns c (e .position) (omega arith) col
-        ∙ sym (k .columns c (e .position) (omega arith) col)
+        ∙ h .columns c (e .position) (back .0) col
+        ∙ sym (g .columns c (e .position) (back .0) col)
         ∙ ap (λ (v : ℕ). amountAt fs (v * sectorLimit + e .position)) word

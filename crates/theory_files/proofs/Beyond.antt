@@ -4,14 +4,15 @@ use mathlib.Core.List.{List, [], _∷_}
 use mathlib.Core.Path.{_≡_, refl, sym, ap, _∙_}
 use Prim.Native.Nat.{ℕ, zero, suc, _+_, _*_, _≤_, _<_, zero-le}
 use native.Mathlib.Nat.{lt-of-lt-of-le, ne-of-lt}
-use borrow.Author.Tests.{ltb-true}
+use borrow.Author.Tests.{ltb-true, ne-eqb}
 use lib.Dec.{eqb, ltb, lit≤}
-use lib.ListN.{getD, set}
+use lib.ListN.{length, getD, set, replicate}
 use lib.Seq.{getD-set-other}
 use Rattle.model.specs.Numbers.{cell}
 use Rattle.model.specs.Table.{sectorLimit, sheetLimit}
 use Rattle.model.specs.Checks.{reportRead, sectorsOf}
 use Rattle.model.specs.File.{Entry, Reading, reading, fits, called, answerOf, flowsOf, columnOf, flowsRead, columnRead, columnWord}
+use Rattle.model.specs.Unadjusted.{Unadjusted}
 use Rattle.model.specs.Contracts.{Slices, columnsOf, readingInto, Delivered, Beyond}
 use Rattle.theory_files.specs.Files.{inputLimit}
 use Rattle.theory.proofs.Sums.{cell-in}
@@ -47,15 +48,16 @@ module _ (n : ℕ) where
 abbrev Zero : ℕ → List ℕ → Type 0
 Zero n l = (k : ℕ) → n ≤ k → cell l k ≡ 0
 
-each : (n : ℕ) (s : Slices) → Zero n (s .finalDemand) → Zero n (s .exports) → Zero n (s .imports) → Zero n (s .valueAdded) → Zero n (s .production) → Zero n (s .rises)
+each : (n : ℕ) (s : Slices) → Zero n (s .finalDemand) → Zero n (s .exports) → Zero n (s .imports) → Zero n (s .valueAdded) → Zero n (s .production) → Zero n (s .adjustment) → Zero n (s .rises)
     → (c : ℕ) → Zero n (getD (columnsOf s) c [])
-each n s f e m v p r zero = f
-each n s f e m v p r (suc zero) = e
-each n s f e m v p r (suc (suc zero)) = m
-each n s f e m v p r (suc (suc (suc zero))) = v
-each n s f e m v p r (suc (suc (suc (suc zero)))) = p
-each n s f e m v p r (suc (suc (suc (suc (suc zero))))) = r
-each n s f e m v p r (suc (suc (suc (suc (suc (suc c)))))) = λ k h. refl
+each n s f e m v p g r zero = f
+each n s f e m v p g r (suc zero) = e
+each n s f e m v p g r (suc (suc zero)) = m
+each n s f e m v p g r (suc (suc (suc zero))) = v
+each n s f e m v p g r (suc (suc (suc (suc zero)))) = p
+each n s f e m v p g r (suc (suc (suc (suc (suc zero))))) = g
+each n s f e m v p g r (suc (suc (suc (suc (suc (suc zero)))))) = r
+each n s f e m v p g r (suc (suc (suc (suc (suc (suc (suc c))))))) = λ k h. refl
 
 same : {n : ℕ} {l m : List ℕ} → l ≡ m → Zero n m → Zero n l
 same e z k h = ap (λ (x : List ℕ). cell x k) e ∙ z k h
@@ -90,7 +92,7 @@ beyond file s₀ marks₀ s d =
       flows = same (d .flows) (flows-left _ inputLimit o a);
       columns =
           each (told o) s (column 0 _ (d .finalDemand)) (column 1 _ (d .exports)) (column 2 _ (d .imports)) (column 3 _ (d .valueAdded))
-          (column 4 _ (d .production)) (column 5 _ (d .rises));
+          (column 4 _ (d .production)) (column 5 _ (d .adjustment)) (column 6 _ (d .rises));
     }
   where
     o : Reading
@@ -101,3 +103,13 @@ beyond file s₀ marks₀ s d =
 
     column : (c len : ℕ) {l : List ℕ} → l ≡ columnRead (columnWord c) len o → Zero (told o) l
     column c len e = same e (column-left (columnWord c) len inputLimit o a)
+
+-- ---- "A file without kind 10 means G = 0"
+-- named cells without an adjustment item leave that column 0
+pub item-zero : (es : List Entry) → Unadjusted es → columnOf (columnWord 5) es ≡ replicate sectorLimit 0
+item-zero [] none = refl
+item-zero (e ∷ es) none = rw (ne-eqb (e .word) (columnWord 5) (none .0)) (item-zero es (none .1))
+
+pub no-item : (file : List ℕ) (s₀ : Slices) (marks₀ : List ℕ) (s : Slices) → Delivered (readingInto file s₀ marks₀) s₀ s
+    → (n : ℕ) (es : List Entry) → readingInto file s₀ marks₀ ≡ Reading.table n es → Unadjusted es → s .adjustment ≡ replicate sectorLimit 0
+no-item file s₀ marks₀ s d n es e none = d .adjustment ∙ ap (columnRead (columnWord 5) (length (s₀ .adjustment))) e ∙ item-zero es none

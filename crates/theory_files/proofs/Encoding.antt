@@ -84,21 +84,21 @@ flow-stands n i j a rest hi hj =
       sized = refl;
     }
 
--- the six kinds of columns: 6 bytes each, none of them 1, 2 or 8, and the word comes back
-column-size : (k : ℕ) → k < 6 → cell recordLengths (cell columnKinds k) ≡ 6
-column-size k h = eqb-true _ _ (first-before 6 (λ i. eqb (cell recordLengths (cell columnKinds i)) 6) k h)
+-- the kinds of columns: 6 bytes each, none of them 1, 2 or 8, and the word comes back
+column-size : (k : ℕ) → k < length columnKinds → cell recordLengths (cell columnKinds k) ≡ 6
+column-size k h = eqb-true _ _ (first-before (length columnKinds) (λ i. eqb (cell recordLengths (cell columnKinds i)) 6) k h)
 
-column-word : (k : ℕ) → k < 6 → cell columnWords (cell columnKinds k) ≡ sectorLimit + k
-column-word k h = eqb-true _ _ (first-before 6 (λ i. eqb (cell columnWords (cell columnKinds i)) (sectorLimit + i)) k h)
+column-word : (k : ℕ) → k < length columnKinds → cell columnWords (cell columnKinds k) ≡ sectorLimit + k
+column-word k h = eqb-true _ _ (first-before (length columnKinds) (λ i. eqb (cell columnWords (cell columnKinds i)) (sectorLimit + i)) k h)
 
 unlike : (b : Bool) → cond b false true ≡ true → b ≡ false
 unlike false e = refl
 unlike true e = absurd (false≢true e)
 
-column-unlike : (q k : ℕ) → first 6 (λ i. cond (eqb (cell columnKinds i) q) false true) ≡ 6 → k < 6 → eqb (cell columnKinds k) q ≡ false
-column-unlike q k e h = unlike _ (first-before 6 (λ i. cond (eqb (cell columnKinds i) q) false true) k (subst (λ (m : ℕ). k < m) (sym e) h))
+column-unlike : (q k : ℕ) → first (length columnKinds) (λ i. cond (eqb (cell columnKinds i) q) false true) ≡ length columnKinds → k < length columnKinds → eqb (cell columnKinds k) q ≡ false
+column-unlike q k e h = unlike _ (first-before (length columnKinds) (λ i. cond (eqb (cell columnKinds i) q) false true) k (subst (λ (m : ℕ). k < m) (sym e) h))
 
-column-stands : (n k j a : ℕ) (rest : List ℕ) → k < 6 → j < n → Stands n (cell columnKinds k ∷ (j + 1) ∷ (amountBytes a ++ rest)) 0 (made (sectorLimit + k) j a) 6
+column-stands : (n k j a : ℕ) (rest : List ℕ) → k < length columnKinds → j < n → Stands n (cell columnKinds k ∷ (j + 1) ∷ (amountBytes a ++ rest)) 0 (made (sectorLimit + k) j a) 6
 unfolding wholeAt insideAt entryAt amountFrom
 column-stands n k j a rest hk hj =
     let long = suc (suc (suc (suc (suc (suc (length rest)))))) in

@@ -1,4 +1,4 @@
--- No accepted file exceeds 12,643 bytes: each record names a cell of its own. Assumes nothing.
+-- No accepted file exceeds 12,883 bytes: each record names a cell of its own. Assumes nothing.
 use mathlib.Core.Bool.{false}
 use mathlib.Core.List.{List, _∷_}
 use mathlib.Core.Path.{_≡_}
@@ -33,7 +33,7 @@ offset-on s es at most t fresh h =
     let same = t .bytes in
     omega arith
 
--- Theorem, for the reader: "No accepted file exceeds 12,643 bytes"
+-- Theorem, for the reader: "No accepted file exceeds 12,883 bytes"
 pub accepted-length : (s : List ℕ) (n : ℕ) (es : List Entry) → reading s ≡ Reading.table n es → length s ≤ fileLimit
 accepted-length s =
     accepted-holds s (λ _ _. length s ≤ fileLimit) (λ es at. (cell s 1 ≤ sectorLimit) × (at ≤ 2 + weight es))

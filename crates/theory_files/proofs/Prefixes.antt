@@ -1,4 +1,4 @@
--- A longer input is answered as its first 12,649 bytes are: the walk never gets further. Assumes nothing.
+-- A longer input is answered as its first 12,889 bytes are: the walk never gets further. Assumes nothing.
 use mathlib.Core.Bool.{Bool, true, false, _&&_, cond}
 use mathlib.Core.List.{List, [], _∷_}
 use mathlib.Core.Path.{_≡_, refl, ap}
@@ -40,7 +40,7 @@ cond-else : (b : Bool) (x y z : Reading) → (b ≡ false → x ≡ y) → cond 
 cond-else true x y z e = refl
 cond-else false x y z e = e refl
 
--- two inputs that agree below 12,649, and are at least as long
+-- two inputs that agree below 12,889, and are at least as long
 module _ (s t : List ℕ) (same : (i : ℕ) → i < inputLimit → cell t i ≡ cell s i) (long : inputLimit ≤ length s) (long′ : inputLimit ≤ length t) where
   amount-same : (k : ℕ) → k < inputLimit - 3 → amountFrom t k ≡ amountFrom s k
   unfolding amountFrom
@@ -107,7 +107,7 @@ module _ (s t : List ℕ) (same : (i : ℕ) → i < inputLimit → cell t i ≡ 
       let few = from-one n sectorLimit (and-true (eqb (kindAt s 0) 1) (fewSectors n) sized .1) in
       walk-same (length t) (length s) n [] 2 (few .1) (omega arith) (omega arith) (omega arith))))
 
--- A program that reads its input into 12,649 bytes or more answers as if it had read everything
+-- A program that reads its input into 12,889 bytes or more answers as if it had read everything
 pub prefix-answers : (k : ℕ) (s : List ℕ) → inputLimit ≤ k → k ≤ length s → reading (take k s) ≡ reading s
 prefix-answers k s enough h =
     let size = length-take-le k s h in

@@ -1,4 +1,4 @@
--- What a reading may be: a refusal with a number from 1 to 15 and a place up to 12,649, or 1 to 40 sectors and cells that such a table has, each named once. Assumes nothing.
+-- What a reading may be: a refusal with a number from 1 to 15 and a place up to 12,889, or 1 to 40 sectors and cells that such a table has, each named once. Assumes nothing.
 use mathlib.Core.Bool.{Bool, true, false}
 use mathlib.Core.List.{List, [], _∷_}
 use mathlib.Core.Path.{_≡_, refl, subst}
@@ -42,7 +42,7 @@ answered-more : (a b : ℕ) (r : Reading) → a ≤ b → Answered a r → Answe
 answered-more a b (Reading.refused number place) h p = (p .0, p .1, omega (arith, p .2))
 answered-more a b (Reading.table n es) h p = p
 
--- a longer file is answered as its first 12,649 bytes are
+-- a longer file is answered as its first 12,889 bytes are
 pub reading-answered : (s : List ℕ) → Answered inputLimit (reading s)
 reading-answered s = split (ltb (length s) inputLimit) refl
   where

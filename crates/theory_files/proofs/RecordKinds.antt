@@ -9,11 +9,11 @@ use lib.Dec.{eqb, leb, ltb}
 use lib.ListN.{length, List·getD-eq-default}
 use Rattle.model.specs.Numbers.{cell}
 use Rattle.model.specs.Table.{sectorLimit}
-use Rattle.model.specs.File.{Within, recordLengths, columnKinds, columnWords, kindAt, isFlow, nextAt, wholeAt, insideAt, entryAt, wordLimit}
+use Rattle.model.specs.File.{Within, recordLengths, columnKinds, kindPlace, columnWords, kindAt, isFlow, nextAt, wholeAt, insideAt, entryAt, wordLimit}
 use Rattle.theory.proofs.Lists.{first-before, and-true, from-one}
 
 -- past the last kind there is no body
-pub no-kind : (k : ℕ) → 10 ≤ k → cell recordLengths k ≡ 0
+pub no-kind : (k : ℕ) → length recordLengths ≤ k → cell recordLengths k ≡ 0
 no-kind k h = List·getD-eq-default recordLengths 0 h
 
 -- what is known of the kind of a column
@@ -23,7 +23,7 @@ record Column (k : ℕ) : Type 0 where
   high : cell columnWords k < wordLimit
   back : cell columnKinds (cell columnWords k - sectorLimit) ≡ k
 
--- a kind with a body, other than 1, 2 and 8, is a column's: computed for each of the ten
+-- a kind with a body, other than 1, 2 and 8, is a column's: computed for each kind
 abbrev isColumn : ℕ → Bool
 isColumn k =
     eqb (cell recordLengths k) 6
@@ -33,8 +33,11 @@ abbrev isOther : ℕ → Bool
 isOther k = eqb (cell recordLengths k) 0 || (eqb k 1 || (eqb k 2 || eqb k 8))
 
 column : (k : ℕ) → 1 ≤ cell recordLengths k → eqb k 1 ≡ false → eqb k 2 ≡ false → eqb k 8 ≡ false → Column k
-column k some no-1 no-2 no-8 = go (ltb k 10) refl
+column k some no-1 no-2 no-8 = go (ltb k kinds) refl
   where
+    kinds : ℕ
+    kinds = length recordLengths
+
     other : isOther k ≡ false
     other = rw (ne-eqb (cell recordLengths k) 0 (λ e. omega (arith, some)), no-1, no-2, no-8) refl
 
@@ -45,11 +48,18 @@ column k some no-1 no-2 no-8 = go (ltb k 10) refl
         let last = and-true _ _ (words .1) in
         record { size = eqb-true _ _ (parts .0); low = leb-true _ _ (words .0); high = ltb-true _ _ (last .0); back = eqb-true _ _ (last .1) }
 
-    go : (b : Bool) → ltb k 10 ≡ b → Column k
-    go true e = known (first-before 10 (λ i. isOther i || isColumn i) k (ltb-true k 10 e))
+    go : (b : Bool) → ltb k kinds ≡ b → Column k
+    go true e = known (first-before kinds (λ i. isOther i || isColumn i) k (ltb-true k kinds e))
     go false e =
-        let none = no-kind k (ltb-false k 10 e) in
+        let none = no-kind k (ltb-false k kinds e) in
         absurd (omega (arith, some))
+
+-- a column's place among the kinds, and from there the column again
+pub place-back : (c : ℕ) → c < length columnKinds → (kindPlace c < length columnKinds) × (kindPlace (kindPlace c) ≡ c)
+place-back c h =
+    let both = first-before (length columnKinds) (λ i. ltb (kindPlace i) (length columnKinds) && eqb (kindPlace (kindPlace i)) i) c h in
+    let parts = and-true _ _ both in
+    (ltb-true _ _ (parts .0), eqb-true _ _ (parts .1))
 
 -- bytes of a record by the word of the cell that it names
 abbrev pub wordBytes : ℕ → ℕ

@@ -241,7 +241,7 @@ module _ (t : Table) (some-columns : 1 ≤ length (t .columns)) (few-columns : l
           let same : cond (sheets .accepted) (firstRefusal (settlingOf ∷ inducing ∷ []) (roundsOf settlingOf ∷ [])) stopped ≡ stopped = rw e refl in
           rw same (refusal-fits (sheets .number) (sheets .place) table-near)
 
--- ---- the page of a file: its own refusals have a number up to 15, and a place up to 12,649
+-- ---- the page of a file: its own refusals have a number up to 15, and a place up to 12,889
 reading-fits : (r : Reading) → Answered inputLimit r → length (readingPage r) ≤ pageLimit
 reading-fits (Reading.refused number place) p = refusal-fits number place (omega (arith, p .1, p .2))
 reading-fits (Reading.table n es) p = table-fits (tableRead n es) (lit≤ tt) (lit≤ tt)

@@ -1,3 +1,4 @@
 -- What the checks of a table say of it, its sheets one from the other, and what they are good for.
 pub mod Tables
 pub mod Prepared
+pub mod Unadjusted

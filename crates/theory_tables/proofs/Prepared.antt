@@ -3,24 +3,24 @@
 use mathlib.Core.Path.{_≡_, refl, sym, _∙_}
 use mathlib.Core.Bool.{true}
 use mathlib.Core.List.{List, [], _∷_, _++_}
-use Prim.Native.Nat.{ℕ, suc, _*_, _/_, _%_, _≤_, _<_}
+use Prim.Native.Nat.{ℕ, suc, _+_, _*_, _-_, _/_, _%_, _≤_, _<_}
 use native.Mathlib.Nat.{le-trans}
 use borrow.Author.Tests.{le-leb, leb-true, eq-eqb}
 use lib.Dec.{eqb}
 use lib.ListN.{length}
-use Rattle.model.specs.Numbers.{one, sum, all, cell, at, transposed}
-use Rattle.model.specs.Table.{Table, finalDemand, inputCoefficient, valueAddedCoefficient, importCoefficient, domesticCoefficient, domesticDemand}
+use Rattle.model.specs.Numbers.{one, sum, all, tabulate, cell, at, transposed}
+use Rattle.model.specs.Table.{Table, finalDemand, exports, adjustment, portion, inputCoefficient, valueAddedCoefficient, importCoefficient, domesticCoefficient, domesticDemand}
 use Rattle.model.specs.Rounds.{settling, settled}
 use Rattle.model.specs.Checks.{Check, accepts, verdict, size, lengths, bounded, single, settles, demandLimit, amountLimit, columnSums, inducedAmounts, productionLimit, productionTotal, columnLimit}
 use Rattle.model.specs.Calls.{tableChecks, matrixChecks, coefficientsReport, productionReport, inducedReport, inputCoefficients, valueAddedCoefficients, importCoefficients, domesticCoefficients, domesticDemands}
-use Rattle.model.specs.Promises.{AcceptedMatrix}
+use Rattle.model.specs.Promises.{AcceptedMatrix, Accurate}
 use Rattle.theory.proofs.Sums.{sum-part}
 use Rattle.theory.proofs.Lists.{length-tabulate, cell-tabulate}
 use Rattle.theory_rounds.proofs.Rounds.{settles-length}
 use Rattle.theory.proofs.Verdicts.{AllPass, accepted-all, all-pass-parts, pass-on, size-passes, lengths-pass, matrix-accepted}
 use Rattle.theory_rounds.proofs.Answers.{accepted-settled}
 use Rattle.theory_tables.proofs.Tables.{Accepted, accepted-table, inputs-small, imports-small, value-small, demand-small}
-use Rattle.theory_rounds.proofs.Promises.{settled-total}
+use Rattle.theory_rounds.proofs.Promises.{accurate, settled-total}
 
 -- the lengths of the sheets
 length-inputs : (t : Table) → length (inputCoefficients t) ≡ t .sectors * t .sectors
@@ -47,7 +47,7 @@ values-small : (t : Table) (matrices lent : List ℕ) → Accepted t matrices le
 unfolding valueAddedCoefficients
 values-small t matrices lent A j h = rw (cell-tabulate (t .sectors) (valueAddedCoefficient t) j h) (value-small t (A .small) (A .balance) j h)
 
-demands-small : (t : Table) (matrices lent : List ℕ) → Accepted t matrices lent → (i : ℕ) → i < t .sectors → cell (domesticDemands t) i ≤ demandLimit
+pub demands-small : (t : Table) (matrices lent : List ℕ) → Accepted t matrices lent → (i : ℕ) → i < t .sectors → cell (domesticDemands t) i ≤ demandLimit
 unfolding domesticDemands
 demands-small t matrices lent A i h = rw (cell-tabulate (t .sectors) (domesticDemand t) i h) (demand-small t (A .small) (A .balance) i h)
 
@@ -90,6 +90,21 @@ module _ (t : Table) (matrices lent : List ℕ) (ok : coefficientsReport t matri
       (matrix-accepted n d [] (length f ∷ n ∷ n ∷ []) matrix-is-accepted refl slices)
       ∙ pass-on (bounded 8 0 demandLimit f ∷ []) last k
       (λ i h. le-leb (cell f i) demandLimit (demands-small t matrices lent table-accepted i (rw (length-demands t) at h)), tt)
+
+  -- Theorem, for the reader: document 02, ticket 3, "The accuracy rule now speaks of demands that include G". The production that is settled from an
+  -- accepted table's f, here written out, is near every exact balance of that f
+  pub table-accurate : (budget : ℕ)
+      → let n = t .sectors in
+      let d = domesticCoefficients t in
+      productionReport n d (domesticDemands t) budget (n ∷ n ∷ []) .accepted ≡ true
+      → Accurate n d
+      (tabulate n (λ i. portion (one - importCoefficient t i) (cell (finalDemand t) i) + (cell (exports t) i + cell (adjustment t) i)))
+      (settled n (at n d) (domesticDemands t) budget)
+  unfolding productionReport domesticDemands domesticDemand
+  table-accurate budget settles =
+      let n = t .sectors in
+      let d = domesticCoefficients t in
+      accurate matrix-is-accepted (accepted-settled n d (at n d) demandLimit (domesticDemands t) budget (n ∷ n ∷ []) settles .1)
 
   -- and what it settles at is accepted for induced amounts
   pub induced-ready : 1 ≤ length (t .columns) → (budget : ℕ)

@@ -9,7 +9,7 @@ use borrow.Author.Tests.{leb-true, eqb-true, ltb-true, ltb-false}
 use lib.Dec.{ltb}
 use lib.ListN.{length, getD, List·getD-eq-default}
 use Rattle.model.specs.Numbers.{one, sum, tabulate, cell, at, matrix, transposed}
-use Rattle.model.specs.Table.{Table, finalDemand, exports, imports, valueAdded, production, flow, need, portion, inputCoefficient, valueAddedCoefficient, importCoefficient, domesticCoefficient, domesticDemand}
+use Rattle.model.specs.Table.{Table, finalDemand, imports, valueAdded, production, adjustedExports, flow, need, portion, inputCoefficient, valueAddedCoefficient, importCoefficient, domesticCoefficient, domesticDemand}
 use Rattle.model.specs.Checks.{size, lengths, bounded, countedOn, amountLimit, demandLimit, tableAmounts, balanceChecks}
 use Rattle.model.specs.Calls.{tableChecks, inputCoefficients, importCoefficients, domesticCoefficients, domesticDemands}
 use Rattle.theory.specs.Slices.{Each, Columns}
@@ -39,7 +39,7 @@ table-sizes t matrices lent p q =
     (record { some = s .some; few = s .few; flows = s .squares .0; columns = l .0 }, s .squares .1, l .1)
 
 -- a cell of a bounded slice, and of any of slices with one limit
-bounded-cell : (place limit : ℕ) (s : List ℕ) → Passes (bounded 3 place limit s) → (k : ℕ) → cell s k ≤ limit
+pub bounded-cell : (place limit : ℕ) (s : List ℕ) → Passes (bounded 3 place limit s) → (k : ℕ) → cell s k ≤ limit
 bounded-cell place limit s p k = split (ltb k (length s)) refl
   where
     split : (b : Bool) → ltb k (length s) ≡ b → cell s k ≤ limit
@@ -56,21 +56,23 @@ table-amounts t p =
     let small = counted-cell 0 amountLimit (t .flows ∷ t .columns) p in
     record { flows = small 0; columns = λ c. small (suc c) }
 
--- questions 4, 5 and 6 pass
+-- questions 16, 4, 5 and 6 pass
 pub record Balanced (t : Table) : Type 0 where
+  pub exports : (i : ℕ) → i < t .sectors → adjustedExports t i ≤ amountLimit
   pub columns : (j : ℕ) → j < t .sectors → sum (t .sectors) (transposed (flow t) j) + cell (valueAdded t) j ≡ cell (production t) j
-  pub rows : (i : ℕ) → i < t .sectors → need t i + cell (exports t) i ≡ cell (production t) i + cell (imports t) i
+  pub rows : (i : ℕ) → i < t .sectors → need t i + adjustedExports t i ≡ cell (production t) i + cell (imports t) i
   pub covered : (i : ℕ) → i < t .sectors → cell (imports t) i ≤ need t i
 
 balanced : (t : Table) → AllPass (balanceChecks t) → Balanced t
-balanced t (c, (r, (m, _))) =
+balanced t (e, (c, (r, (m, _)))) =
     record {
+      exports = λ i h. leb-true _ _ (e i h);
       columns = λ j h. eqb-true _ _ (c j h);
       rows = λ i h. eqb-true _ _ (r i h);
       covered = λ i h. leb-true _ _ (m i h);
     }
 
--- a table that passes questions 1 to 6, and the slices that are lent beside it
+-- a table that passes questions 1 to 6 and 16, and the slices that are lent beside it
 pub record Accepted (t : Table) (matrices lent : List ℕ) : Type 0 where
   pub sizes : TableSizes t
   pub small : TableAmounts t
@@ -105,6 +107,7 @@ module _ (t : Table) (a : TableAmounts t) (b : Balanced t) where
   unfolding importCoefficient
   import-small i h = share-le (cell (imports t) i) (need t i) (b .covered i h)
 
+  -- by 16 E plus G is no more than E alone may be, so f stays within the limit of question 8
   pub demand-small : (i : ℕ) → i < t .sectors → domesticDemand t i ≤ demandLimit
   unfolding domesticDemand
   demand-small i h =
@@ -112,7 +115,7 @@ module _ (t : Table) (a : TableAmounts t) (b : Balanced t) where
         arith,
         portion-le (one - importCoefficient t i) (cell (finalDemand t) i) (sub-le one (importCoefficient t i)),
         a .columns 0 i,
-        a .columns 1 i,
+        b .exports i h,
       )
 
 -- ---- the sheets, as they are worked out one from the other
@@ -135,18 +138,18 @@ module _ (t : Table) where
       ap₂ portion (ap (λ (m : ℕ). one - m) (import-cell (k / n) (place-row n k some h)))
       (place-cell n (inputCoefficients t) k ∙ input-cell k h))
 
-  demand-is : tabulate (t .sectors) (λ i. portion (one - cell (importCoefficients t) i) (cell (finalDemand t) i) + cell (exports t) i) ≡ domesticDemands t
+  demand-is : tabulate (t .sectors) (λ i. portion (one - cell (importCoefficients t) i) (cell (finalDemand t) i) + adjustedExports t i) ≡ domesticDemands t
   unfolding domesticDemands domesticDemand
   demand-is =
       tabulate-cong (t .sectors)
-      (λ i h. ap (λ (m : ℕ). portion (one - m) (cell (finalDemand t) i) + cell (exports t) i) (import-cell i h))
+      (λ i h. ap (λ (m : ℕ). portion (one - m) (cell (finalDemand t) i) + adjustedExports t i) (import-cell i h))
 
 pub domestic-from : (t : Table) {a m : List ℕ} → 1 ≤ t .sectors → a ≡ inputCoefficients t → m ≡ importCoefficients t
     → matrix (t .sectors) (λ i j. portion (one - cell m i) (at (t .sectors) a i j)) ≡ domesticCoefficients t
 domestic-from t some e f = rw (e, f) (domestic-is t some)
 
 pub demand-from : (t : Table) {m : List ℕ} → m ≡ importCoefficients t
-    → tabulate (t .sectors) (λ i. portion (one - cell m i) (cell (finalDemand t) i) + cell (exports t) i) ≡ domesticDemands t
+    → tabulate (t .sectors) (λ i. portion (one - cell m i) (cell (finalDemand t) i) + adjustedExports t i) ≡ domesticDemands t
 demand-from t e = rw e (demand-is t)
 
 -- so the cells of a and of m are within one

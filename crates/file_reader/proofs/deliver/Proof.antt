@@ -9,7 +9,8 @@ use Rattle.file_reader.proofs.deliver.Tie as tie
 
 returns : tie.Need-returns
 returns c =
-    let c7 = c .before .before in
+    let c8 = c .before .before in
+    let c7 = c8 .before .before .before .before in
     let c6 = c7 .before .before .before .before in
     let c5 = c6 .before .before .before .before in
     let c4 = c5 .before .before .before .before in
@@ -17,7 +18,7 @@ returns c =
     let c2 = c3 .before .before .before .before in
     let c1 = c2 .before .before .before .before in
     λ marks s o e h.
-    let d = fit-or-not _ (_ ∷ _ ∷ _ ∷ _ ∷ _ ∷ _ ∷ []) _ s o e in
+    let d = fit-or-not _ (_ ∷ _ ∷ _ ∷ _ ∷ _ ∷ _ ∷ _ ∷ []) _ s o e in
     record {
       flows = put-flows o _ h _ _ (either (λ f. f .0) d) (c1 .put-part .ensures);
       finalDemand = put-column o _ h 0 (lit< tt) _ _ (either (λ f. f .1 .0) d) (c2 .put-part2 .ensures);
@@ -25,7 +26,8 @@ returns c =
       imports = put-column o _ h 2 (lit< tt) _ _ (either (λ f. f .1 .1 .1 .0) d) (c4 .put-part4 .ensures);
       valueAdded = put-column o _ h 3 (lit< tt) _ _ (either (λ f. f .1 .1 .1 .1 .0) d) (c5 .put-part5 .ensures);
       production = put-column o _ h 4 (lit< tt) _ _ (either (λ f. f .1 .1 .1 .1 .1 .0) d) (c6 .put-part6 .ensures);
-      rises = put-column o _ h 5 (lit< tt) _ _ (either (λ f. f .1 .1 .1 .1 .1 .1 .0) d) (c7 .put-part7 .ensures);
+      adjustment = put-column o _ h 5 (lit< tt) _ _ (either (λ f. f .1 .1 .1 .1 .1 .1 .0) d) (c7 .put-part7 .ensures);
+      rises = put-column o _ h 6 (lit< tt) _ _ (either (λ f. f .1 .1 .1 .1 .1 .1 .1 .0) d) (c8 .put-part8 .ensures);
     }
 
 pub deliver-spec : {M : Type 1} → statement M

@@ -18,11 +18,11 @@ use Rattle.file_writer.proofs.check_written.Statement.{statement}
 use Rattle.file_writer.proofs.check_written.Tie as tie
 
 abbrev entry : tie.After-check-sizes → tie.Start
-entry q = q .before .before .before .before .before .before .before .before .before .before
+entry q = q .before .before .before .before .before .before .before .before .before .before .before
 
 -- the columns of the amounts that are asked together, and the rises after them
 abbrev columns : tie.After-check-sizes → List (List ℕ)
-columns q = let a = entry q .args in a .final-demand .now ∷ a .exports .now ∷ a .imports .now ∷ a .value-added .now ∷ a .production .now ∷ []
+columns q = let a = entry q .args in a .final-demand .now ∷ a .exports .now ∷ a .imports .now ∷ a .value-added .now ∷ a .production .now ∷ a .adjustment .now ∷ []
 
 abbrev table : tie.After-check-sizes → List (List ℕ) → Table
 table q later = let a = entry q .args in tableOf (a .n) (a .x .now) (columns q ++ later)
@@ -61,7 +61,7 @@ check-amounts-requires : tie.Need-check-amounts-requires
 check-amounts-requires c κs = sizes (c .before) .flows
 
 next-within-requires : tie.Need-next-within-requires
-next-within-requires c κs = let p = c .before .before in omega (arith, square p, sizes p .columns 4 (lit< tt), sizes p .columns 5 (lit< tt))
+next-within-requires c κs = let p = c .before .before in omega (arith, square p, sizes p .columns 5 (lit< tt), sizes p .columns 6 (lit< tt))
 
 returns-3 : tie.Need-returns-3
 returns-3 c =
@@ -69,11 +69,11 @@ returns-3 c =
     let q = p .before .before in
     let z = sizes p in
     let a = entry q .args in
-    let five = table q [] in
-    let place : a .n * a .n + 5 * a .n ≡ 0 + length (a .x .now) + length (a .final-demand .now) + length (a .exports .now) + length (a .imports .now) + length (a .value-added .now) + length (a .production .now) =
-    omega (arith, z .flows, z .columns 0 (lit< tt), z .columns 1 (lit< tt), z .columns 2 (lit< tt), z .columns 3 (lit< tt), z .columns 4 (lit< tt)) in
-    c .next-within .ensures (tableAmounts five) (c .before .check-amounts .ensures)
-    ∙ ap (λ (k : ℕ). verdict (tableAmounts five ++ (bounded 3 k amountLimit (a .rises .now) ∷ [])) []) place
+    let before = table q [] in
+    let place : a .n * a .n + 6 * a .n ≡ 0 + length (a .x .now) + length (a .final-demand .now) + length (a .exports .now) + length (a .imports .now) + length (a .value-added .now) + length (a .production .now) + length (a .adjustment .now) =
+    omega (arith, z .flows, z .columns 0 (lit< tt), z .columns 1 (lit< tt), z .columns 2 (lit< tt), z .columns 3 (lit< tt), z .columns 4 (lit< tt), z .columns 5 (lit< tt)) in
+    c .next-within .ensures (tableAmounts before) (c .before .check-amounts .ensures)
+    ∙ ap (λ (k : ℕ). verdict (tableAmounts before ++ (bounded 3 k amountLimit (a .rises .now) ∷ [])) []) place
     ∙ sym (single-passed 2 (tableAmounts (whole q)) [] (eq-eqb fileLimit (a .file) (sym (c .before .before .if1 .left))))
     ∙ answered-on (asked q) (q .check-sizes .ensures) (later q) [] (p .enum-told .given .1)
 

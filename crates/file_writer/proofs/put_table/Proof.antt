@@ -7,7 +7,7 @@ use native.Mathlib.Omega.{arith}
 use borrow.Author.Needs.{needs}
 use lib.ListN.{length}
 use Rattle.model.specs.Table.{Table, tableOf, sectorLimit}
-use Rattle.model.specs.Writer.{rows, written}
+use Rattle.model.specs.Writer.{rows, columnsByKind, written}
 use Rattle.theory.proofs.Stores.{Begun, begin, go-on, done, room, room-first}
 use Rattle.file_writer.proofs.TableLaws.{wordsEncoded, table-parts}
 use Rattle.file_writer.proofs.put_table.Statement.{statement}
@@ -16,14 +16,14 @@ use Rattle.file_writer.proofs.put_table.Tie as tie
 abbrev table : tie.Start → Table
 table s =
     let a = s .args in
-    tableOf (a .n) (a .x .now) (a .final-demand .now ∷ a .exports .now ∷ a .imports .now ∷ a .value-added .now ∷ a .production .now ∷ a .rises .now ∷ [])
+    tableOf (a .n) (a .x .now) (a .final-demand .now ∷ a .exports .now ∷ a .imports .now ∷ a .value-added .now ∷ a .production .now ∷ a .adjustment .now ∷ a .rises .now ∷ [])
 
 -- its parts after kind 1
 abbrev flows : tie.Start → List ℕ
 flows s = let a = s .args in wordsEncoded 0 (rows (a .n) (a .x .now))
 
 abbrev columns : tie.Start → List ℕ
-columns s = wordsEncoded sectorLimit (table s .columns)
+columns s = wordsEncoded sectorLimit (columnsByKind (table s))
 
 abbrev opening : tie.Start → List ℕ
 opening s = 1 ∷ s .args .n ∷ []
@@ -39,7 +39,7 @@ fits : (s : tie.Start) → 0 + length (written (table s)) ≤ length (s .args .f
 fits s = rw (zero-add (length (written (table s)))) (s .pre .2)
 
 abbrev entry : tie.After-put-bytes → tie.Start
-entry c = c .before .before .before .before .before .before .before .before .before .before .before
+entry c = c .before .before .before .before .before .before .before .before .before .before .before .before
 
 opened : (c : tie.After-put-bytes) → let s = entry c in Left s (c .put-bytes .last .1 .1 .0) (c .put-bytes .result) (flows s ++ (columns s ++ (8 ∷ [])))
 opened c = let s = entry c in go-on (opening s) (flows s ++ (columns s ++ (8 ∷ []))) (table-parts (table s)) (start s) (c .put-bytes .ensures)
@@ -53,12 +53,12 @@ listed c = let s = entry (before-rows c) in go-on (flows s) (columns s ++ (8 ∷
 abbrev before-columns : tie.After-put-columns → tie.After-put-rows
 before-columns c = c .before .before .before .before
 
-closing : (c : tie.After-put-columns) → let s = entry (before-rows (before-columns c)) in Left s (c .put-columns .last .1 .1 .1 .1 .1 .1 .1 .0) (c .put-columns .result) (8 ∷ [])
+closing : (c : tie.After-put-columns) → let s = entry (before-rows (before-columns c)) in Left s (c .put-columns .last .1 .1 .1 .1 .1 .1 .1 .1 .0) (c .put-columns .result) (8 ∷ [])
 closing c = let s = entry (before-rows (before-columns c)) in go-on (columns s) (8 ∷ []) refl (listed (before-columns c)) (c .put-columns .ensures)
 
 put-bytes-requires : tie.Need-put-bytes-requires
 put-bytes-requires c κs =
-    let s = c .before .before .before .before .before .before .before .before .before .before in
+    let s = c .before .before .before .before .before .before .before .before .before .before .before in
     room-first (opening s) (flows s ++ (columns s ++ (8 ∷ []))) (table-parts (table s)) (fits s) (start s)
 
 put-rows-requires : tie.Need-put-rows-requires
@@ -67,11 +67,23 @@ put-rows-requires c κs =
     let s = entry q in
     ((s .pre .0 .few, s .pre .0 .flows), (s .pre .1 .flows, room-first (flows s) (columns s ++ (8 ∷ [])) refl (fits s) (opened q)))
 
+-- the columns as they are written are those of the table
+ordered-long : (s : tie.Start) (k : ℕ) → k < length columnKinds → length (getD (columnsByKind (table s)) k []) ≡ s .args .n
+ordered-long s k h =
+    ap length (slice-made (length columnKinds) (λ c. column (table s) (kindPlace c)) k h) ∙ s .pre .0 .columns (kindPlace k) (place-back k h .0)
+
+ordered-small : (s : tie.Start) (k i : ℕ) → cell (getD (columnsByKind (table s)) k []) i ≤ amountLimit
+ordered-small s k i = go (ltb k (length columnKinds)) refl
+  where
+    go : (b : Bool) → ltb k (length columnKinds) ≡ b → cell (getD (columnsByKind (table s)) k []) i ≤ amountLimit
+    go true h = rw (slice-made (length columnKinds) (λ c. column (table s) (kindPlace c)) k (ltb-true k (length columnKinds) h)) (s .pre .1 .columns (kindPlace k) i)
+    go false h = rw (List·getD-eq-default (columnsByKind (table s)) [] {n = k} (ltb-false k (length columnKinds) h)) zero-le
+
 put-columns-requires : tie.Need-put-columns-requires
 put-columns-requires c κs =
     let q = c .before .before .before in
     let s = entry (before-rows q) in
-    (λ k h. omega (arith, s .pre .0 .few, s .pre .0 .columns k h), (s .pre .1 .columns, room-first (columns s) (8 ∷ []) refl (fits s) (listed q)))
+    (λ k h. omega (arith, s .pre .0 .few, ordered-long s k h), (ordered-small s, room-first (columns s) (8 ∷ []) refl (fits s) (listed q)))
 
 put-byte-requires : tie.Need-put-byte-requires
 put-byte-requires c κs =

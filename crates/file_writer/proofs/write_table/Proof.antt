@@ -9,10 +9,10 @@ abbrev cleared : tie.After-check-written → tie.After-clear-bytes
 cleared q = q .before .before .before
 
 abbrev entry : tie.After-check-written → tie.Start
-entry q = cleared q .before .before .before .before .before .before .before .before .before .before
+entry q = cleared q .before .before .before .before .before .before .before .before .before .before .before
 
 abbrev slices : tie.Start → Slices
-slices s = let a = s .args in slicesOf (a .x .now) (a .final-demand .now) (a .exports .now) (a .imports .now) (a .value-added .now) (a .production .now) (a .rises .now)
+slices s = let a = s .args in slicesOf (a .x .now) (a .final-demand .now) (a .exports .now) (a .imports .now) (a .value-added .now) (a .production .now) (a .adjustment .now) (a .rises .now)
 
 asked : (q : tie.After-check-written) → let s = entry q in Asked (s .args .n) (slices s) (s .args .file .now) (cleared q .clear-bytes .last .0) (q .check-written .result)
 asked q = record { clear = cleared q .clear-bytes .ensures; said = q .check-written .ensures }

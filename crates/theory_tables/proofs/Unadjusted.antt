@@ -1,0 +1,117 @@
+-- Document 02, ticket 3: "A file without kind 10 means G = 0 and keeps its results". Where G is 0, answer, f and page are those of document 01's own
+-- formulas. Assumes nothing.
+use mathlib.Core.Bool.{true}
+use mathlib.Core.List.{List, [], _∷_, _++_, map}
+use mathlib.Core.Path.{_≡_, refl, sym, ap, ap₂, _∙_, subst, fun-ext}
+use Prim.Native.Nat.{ℕ, _+_, _*_, _-_, _≤_, _<_, zero-le}
+use native.Mathlib.Nat.{add-zero}
+use borrow.Author.Tests.{le-leb, eq-eqb}
+use lib.Dec.{eqb, leb}
+use lib.ListN.{length, replicate, length-replicate}
+use Rattle.model.specs.Numbers.{one, cell, at}
+use Rattle.model.specs.Table.{Table, tableOf, adjustedExports, need, portion, inputCoefficient, valueAddedCoefficient, importCoefficient, domesticCoefficient, domesticDemand}
+use Rattle.model.specs.Checks.{Report, Check, verdict, output, each, size, lengths, bounded, countedOn, amountLimit, tableAmounts, exportsWithin, columnBalances, rowBalances, importsCovered, columnSums, demandLimit}
+use Rattle.model.specs.Calls.{coefficientsReport, inputCoefficients, valueAddedCoefficients, importCoefficients, domesticCoefficients, domesticDemands}
+use Rattle.model.specs.Figures.{reportFrom, figuresReport}
+use Rattle.model.specs.Page.{pageFrom, tablePage}
+use Rattle.model.specs.Unadjusted.{NoAdjustment, withoutAdjustment, unadjustedRows, unadjustedReport, unadjustedDemands, unadjustedPage}
+use Rattle.model.specs.Contracts.{Derived}
+use Rattle.theory.proofs.Lists.{tabulate-cong, cell-zeros}
+use Rattle.theory.proofs.Verdicts.{AllPass, passed-after, output-given}
+use Rattle.theory_tables.proofs.Tables.{bounded-cell}
+use Rattle.theory_tables.proofs.Prepared.{table-accepted, demands-small}
+
+module _ (n : ℕ) (x demand abroad bought value made : List ℕ) where
+  abbrev pub zeros : List ℕ
+  zeros = replicate n 0
+
+  -- the table with an adjustment item of 0 in every sector, and as document 01 has it
+  abbrev pub adjusted : Table
+  adjusted = tableOf n x (demand ∷ abroad ∷ bought ∷ value ∷ made ∷ zeros ∷ [])
+
+  abbrev pub plain : Table
+  plain = tableOf n x (demand ∷ abroad ∷ bought ∷ value ∷ made ∷ [])
+
+  exports-alone : (i : ℕ) → adjustedExports adjusted i ≡ cell abroad i
+  exports-alone i = ap (λ (g : ℕ). cell abroad i + g) (cell-zeros n i) ∙ add-zero (cell abroad i)
+
+  -- f, by document 01
+  pub unadjusted-demands : domesticDemands adjusted ≡ unadjustedDemands plain
+  unfolding domesticDemands domesticDemand unadjustedDemands importCoefficient
+  unadjusted-demands = tabulate-cong n (λ i _. ap (λ (e : ℕ). portion (one - importCoefficient plain i) (cell demand i) + e) (exports-alone i))
+
+  -- the questions: that of G among 3 and 16 pass where those before them do, and 5 is that of document 01
+  module _ (matrices lent : List ℕ) where
+    abbrev before : List Check
+    before = size n ∷ lengths n (length x ∷ matrices) (map length (demand ∷ abroad ∷ bought ∷ value ∷ made ∷ []) ++ lent) ∷ tableAmounts plain
+
+    abbrev after : Check → List Check
+    after rows = columnBalances plain ∷ rows ∷ importsCovered plain ∷ columnSums n (at n (domesticCoefficients plain)) ∷ []
+
+    abbrev amounts : Check
+    amounts = bounded 3 (0 + length x + length demand + length abroad + length bought + length value + length made) amountLimit zeros
+
+    zeros-pass : (i : ℕ) → i < length zeros → leb (cell zeros i) amountLimit ≡ true
+    zeros-pass i _ = ap (λ (g : ℕ). leb g amountLimit) (cell-zeros n i) ∙ le-leb 0 amountLimit zero-le
+
+    exports-pass : AllPass before → (i : ℕ) → i < n → leb (adjustedExports adjusted i) amountLimit ≡ true
+    exports-pass p i _ =
+        ap (λ (e : ℕ). leb e amountLimit) (exports-alone i)
+        ∙ le-leb (cell abroad i) amountLimit (bounded-cell 0 amountLimit abroad (p .1 .1 .1 .1 .0) i)
+
+    rows-same : rowBalances adjusted ≡ unadjustedRows plain
+    rows-same = ap (each 5 n) (fun-ext (λ i. ap (λ (e : ℕ). eqb (need plain i + e) (cell made i + cell bought i)) (exports-alone i)))
+
+    pub unadjusted-report : coefficientsReport adjusted matrices lent ≡ unadjustedReport plain matrices lent
+    unfolding coefficientsReport unadjustedReport domesticCoefficients domesticCoefficient inputCoefficient importCoefficient
+    unadjusted-report =
+        rw (eq-eqb n (length zeros) (sym (length-replicate n 0)))
+        (passed-after before amounts (exportsWithin adjusted ∷ after (rowBalances adjusted)) [] (λ _. zeros-pass)
+        ∙ passed-after before (exportsWithin adjusted) (after (rowBalances adjusted)) [] exports-pass
+        ∙ ap (λ (q : Check). verdict (before ++ after q) []) rows-same)
+
+  -- Theorem, for the reader: the page, by document 01
+  pub unadjusted-page : tablePage adjusted ≡ unadjustedPage plain
+  unfolding tablePage figuresReport unadjustedPage inputCoefficients inputCoefficient valueAddedCoefficients valueAddedCoefficient importCoefficients importCoefficient domesticCoefficients domesticCoefficient
+  unadjusted-page =
+      ap₂ (λ (f : List ℕ) (r : Report). pageFrom plain f (reportFrom plain f r)) unadjusted-demands
+      (unadjusted-report (n * n ∷ n * n ∷ []) (n ∷ n ∷ n ∷ []))
+
+-- ---- what the call promises of its answer and of what it leaves in its outputs
+module _ (n : ℕ) (x demand abroad bought value made item : List ℕ) where
+  abbrev t : Table
+  t = tableOf n x (demand ∷ abroad ∷ bought ∷ value ∷ made ∷ item ∷ [])
+
+  pub derived : {a₀ v₀ m₀ d₀ f₀ a v m d f : List ℕ} {r : Report}
+      → r ≡ coefficientsReport t (length a₀ ∷ length d₀ ∷ []) (length v₀ ∷ length m₀ ∷ length f₀ ∷ [])
+      → a ≡ output r (length a₀) (inputCoefficients t) → v ≡ output r (length v₀) (valueAddedCoefficients t)
+      → m ≡ output r (length m₀) (importCoefficients t) → d ≡ output r (length d₀) (domesticCoefficients t)
+      → f ≡ output r (length f₀) (domesticDemands t) → Derived t a₀ v₀ m₀ d₀ f₀ r a v m d f
+  derived {a₀} {v₀} {m₀} {d₀} {f₀} {a} {v} {m} {d} {f} {r} answer inputs values imports domestic demands =
+      record {
+        answer = answer;
+        inputs = inputs;
+        values = values;
+        imports = imports;
+        domestic = domestic;
+        demands = demands;
+        small = λ ok i h.
+            let A = table-accepted t matrices lent (sym (ap (λ (q : Report). q .accepted) answer) ∙ ok) in
+            subst (λ (l : List ℕ). cell l i ≤ demandLimit) (sym (demands ∙ output-given r (length f₀) (domesticDemands t) ok)) (demands-small t matrices lent A i h);
+        unadjusted = λ none. (answer ∙ report-of item none, demands ∙ ap (output r (length f₀)) (demands-of item none));
+      }
+    where
+      matrices : List ℕ
+      matrices = length a₀ ∷ length d₀ ∷ []
+
+      lent : List ℕ
+      lent = length v₀ ∷ length m₀ ∷ length f₀ ∷ []
+
+      table : List ℕ → Table
+      table g = tableOf n x (demand ∷ abroad ∷ bought ∷ value ∷ made ∷ g ∷ [])
+
+      report-of : (g : List ℕ) → g ≡ replicate n 0 → coefficientsReport (table g) matrices lent ≡ unadjustedReport (plain n x demand abroad bought value made) matrices lent
+      report-of g none = ap (λ (l : List ℕ). coefficientsReport (table l) matrices lent) none ∙ unadjusted-report n x demand abroad bought value made matrices lent
+
+      demands-of : (g : List ℕ) → g ≡ replicate n 0 → domesticDemands (table g) ≡ unadjustedDemands (plain n x demand abroad bought value made)
+      demands-of g none = ap (λ (l : List ℕ). domesticDemands (table l)) none ∙ unadjusted-demands n x demand abroad bought value made
