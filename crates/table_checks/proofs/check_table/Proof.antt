@@ -9,12 +9,12 @@ use Rattle.table_checks.proofs.check_table.Statement.{statement}
 use Rattle.table_checks.proofs.check_table.Tie as tie
 
 abbrev entry : tie.After-check-sizes → tie.Start
-entry q = q .before .before .before .before .before .before .before .before .before
+entry q = q .before .before .before .before .before .before .before .before .before .before
 
 abbrev table : tie.After-check-sizes → Table
-table q = let a = entry q .args in tableOf (a .n) (a .x .now) (a .final-demand .now ∷ a .exports .now ∷ a .imports .now ∷ a .value-added .now ∷ a .production .now ∷ [])
+table q = let a = entry q .args in tableOf (a .n) (a .x .now) (a .final-demand .now ∷ a .exports .now ∷ a .imports .now ∷ a .value-added .now ∷ a .production .now ∷ a .adjustment .now ∷ [])
 
--- questions 1 and 2, and questions 3 to 6
+-- questions 1 and 2, and those after them
 abbrev asked : tie.After-check-sizes → List Check
 asked q = let a = entry q .args in size (a .n) ∷ lengths (a .n) (a .matrices .now) (a .lent .now) ∷ []
 
