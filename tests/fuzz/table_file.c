@@ -1,7 +1,8 @@
 /* A fuzz harness of the calls that take a table file or give one, the reader, the writer and the page: any bytes as a file, in slices full
    of junk. A refusal leaves every cell, byte and count at 0; the marks are 0 after every call, and so is every byte after a page or a
-   written file; a file that the reader refuses prints that refusal; the file is never changed; nothing is written beside a slice. What was
-   read is written, unless question 3 refuses it; the written file is read as the same cells, and written again as the same bytes. */
+   written file; a file that the reader refuses prints that refusal, and one whose amounts questions 3 or 16 refuse prints theirs; the file
+   is never changed; nothing is written beside a slice. What was read is written, unless question 3 refuses it; the written file is read as
+   the same cells, and written again as the same bytes. */
 #include <stddef.h>
 #include <stdint.h>
 #include <stdio.h>
@@ -93,8 +94,8 @@ static uint8_t one_call(const uint8_t *file, size_t length, const size_t lengths
     return number;
 }
 
-/* The page of a file whose reading was told as number and place. */
-static void one_page(const uint8_t *file, size_t length, size_t out_length, uint8_t read_number, size_t read_place) {
+/* The page of a file whose reading, or whose amounts, are refused with this number at this place, or with 0 are not. */
+static void one_page(const uint8_t *file, size_t length, size_t out_length, uint8_t refusal, size_t refused_place) {
     static uint8_t bytes[TAWQESHIM_PAGE + 1 + 2 * GUARD];
     memset(bytes, (uint8_t)JUNK, sizeof bytes);
     uint8_t *copy = room() + ROOM - length, *out = bytes + GUARD;
@@ -113,8 +114,8 @@ static void one_page(const uint8_t *file, size_t length, size_t out_length, uint
         assert(number == TAWQESHIM_ACCEPTED && count >= 1 && count <= TAWQESHIM_PAGE);
         assert(memchr(out, 0, count) == NULL && out[count - 1] == '\n');
         char line[64];
-        int written = snprintf(line, sizeof line, "refused %u %zu\n", read_number, read_place);
-        if (read_number != 0) assert(count == (size_t)written && memcmp(out, line, count) == 0);
+        int written = snprintf(line, sizeof line, "refused %u %zu\n", refusal, refused_place);
+        if (refusal != 0) assert(count == (size_t)written && memcmp(out, line, count) == 0);
     }
     for (size_t k = count; k < out_length; k++) assert(out[k] == 0);
 }
@@ -139,13 +140,24 @@ static uint8_t read_into(const uint8_t *file, size_t length, struct table *t) {
     return number;
 }
 
-/* The place of the first cell over the limit, or SIZE_MAX. */
-static size_t first_over(const struct table *t) {
+/* The place of the first cell over the limit in so many slices, or SIZE_MAX. */
+static size_t first_over(const struct table *t, size_t slices) {
     size_t place = 0;
-    for (size_t s = 0; s < MARKS; s++)
+    for (size_t s = 0; s < slices; s++)
         for (size_t k = 0; k < cells_of(t, s); k++, place++)
             if (t->cells[s][k] > TAWQESHIM_AMOUNT_LIMIT) return place;
     return SIZE_MAX;
+}
+
+/* Questions 3 and 16 of the table in an accepted file, whose rises they do not ask about. */
+static uint8_t ask_amounts(const uint8_t *file, size_t length, size_t *place) {
+    static struct table t;
+    assert(read_into(file, length, &t) == TAWQESHIM_ACCEPTED);
+    *place = first_over(&t, MARKS - 1);
+    if (*place != SIZE_MAX) return TAWQESHIM_REFUSED_AMOUNT;
+    for (*place = 0; *place < t.n; ++*place)
+        if (t.cells[2][*place] + t.cells[6][*place] > TAWQESHIM_AMOUNT_LIMIT) return TAWQESHIM_REFUSED_OUTFLOW;
+    return TAWQESHIM_ACCEPTED;
 }
 
 /* Writes a table into the bytes behind a guard, where one column may be a cell short. The number, and the file's length in *count. */
@@ -162,7 +174,7 @@ static uint8_t write_from(const struct table *t, size_t short_column, uint8_t *b
 
     assert(memcmp(&before, t, sizeof before) == 0);
     for (size_t k = 0; k < GUARD; k++) assert(bytes[k] == (uint8_t)JUNK && out[out_length + k] == (uint8_t)JUNK);
-    size_t over = first_over(t);
+    size_t over = first_over(t, MARKS);
     if (short_column < MARKS || out_length != TAWQESHIM_FILE)
         assert(number == TAWQESHIM_REFUSED_LENGTH && place == 0 && *count == 0);
     else if (over != SIZE_MAX)
@@ -198,8 +210,11 @@ int LLVMFuzzerTestOneInput(const uint8_t *file, size_t length) {
     if (length > ROOM) return 0;
     size_t place;
     uint8_t number = one_call(file, length, exact, &place);
+    if (number == TAWQESHIM_ACCEPTED) {
+        one_archive(file, length);
+        number = ask_amounts(file, length, &place);
+    }
     one_page(file, length, TAWQESHIM_PAGE, number, place);
-    if (number == TAWQESHIM_ACCEPTED) one_archive(file, length);
     /* Now and then one slice is a cell short or a cell long, and so is the page. */
     if (length % 8 == 7) {
         size_t lengths[SLICES];
