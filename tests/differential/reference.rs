@@ -13,8 +13,7 @@ pub const COLUMN_LIMIT: u128 = 950_000;
 pub const DEMAND_LIMIT: u128 = 2_000_000_000;
 pub const RISE_LIMIT: u128 = 1_000_000_000;
 pub const PRODUCTION_LIMIT: u128 = 1_600_000_000_000;
-/// "The table file": 1,600 cells for x, 40 for each of six columns, 46 work words; "the adjustment item" lends
-/// one more column and one more word.
+/// "The table file" with "the adjustment item": 1,600 cells for x, 40 for each of seven columns, 47 work words.
 pub const FILE_LENGTHS: [usize; 9] = [1600, 40, 40, 40, 40, 40, 40, 40, 47];
 /// "A writer for table files" is lent the bytes of the file; "the adjustment item" makes them 12,883.
 pub const FILE_BYTES: usize = 12_883;
