@@ -7,8 +7,8 @@ use Rattle.coefficients.proofs.check_called.Tie as tie
 
 check-table-requires : tie.Need-check-table-requires
 check-table-requires c κs =
-    let a = c .before .before .before .before .before .before .before .before .args in
-    let columns = a .final-demand .now ∷ a .exports .now ∷ a .imports .now ∷ a .value-added .now ∷ a .production .now ∷ [] in
+    let a = c .before .before .before .before .before .before .before .before .before .args in
+    let columns = a .final-demand .now ∷ a .exports .now ∷ a .imports .now ∷ a .value-added .now ∷ a .production .now ∷ a .adjustment .now ∷ [] in
     (λ e. e .0, λ e. slice-lengths (a .n) columns (a .v-len ∷ a .m-len ∷ a .f-len ∷ []) e .0)
 
 pub check-called-spec : {M : Type 1} → statement M

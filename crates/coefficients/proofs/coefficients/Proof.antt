@@ -3,6 +3,7 @@ use mathlib.Core.Path.{_∙_}
 use borrow.Author.Needs.{needs}
 use Rattle.model.specs.Checks.{report}
 use Rattle.theory.proofs.Verdicts.{output-from}
+use Rattle.theory_tables.proofs.Unadjusted.{derived}
 use Rattle.coefficients.proofs.coefficients.Statement.{statement}
 use Rattle.coefficients.proofs.coefficients.Tie as tie
 
@@ -16,15 +17,13 @@ returns c =
     let q = a .before .before .before .before .before .before .before .before .before .before .before .before in
     let e = q .fill-sheets .ensures in
     let r = report (q .fill-sheets .result) in
-    let l = q .fill-sheets .kept .1 .1 .1 .1 .1 .1 .1 in
-    record {
-      answer = e .0;
-      inputs = a .output .ensures ∙ output-from r (l .0) (λ ok. e .1 ok .0);
-      values = v .output2 .ensures ∙ output-from r (l .1 .0) (λ ok. e .1 ok .1);
-      imports = m .output3 .ensures ∙ output-from r (l .1 .1 .0) (λ ok. e .1 ok .2);
-      domestic = d .output4 .ensures ∙ output-from r (l .1 .1 .1 .0) (λ ok. e .1 ok .3);
-      demands = f .output5 .ensures ∙ output-from r (l .1 .1 .1 .1 .0) (λ ok. e .1 ok .4);
-    }
+    let l = q .fill-sheets .kept .1 .1 .1 .1 .1 .1 .1 .1 in
+    derived _ _ _ _ _ _ _ _ (e .0)
+    (a .output .ensures ∙ output-from r (l .0) (λ ok. e .1 ok .0))
+    (v .output2 .ensures ∙ output-from r (l .1 .0) (λ ok. e .1 ok .1))
+    (m .output3 .ensures ∙ output-from r (l .1 .1 .0) (λ ok. e .1 ok .2))
+    (d .output4 .ensures ∙ output-from r (l .1 .1 .1 .0) (λ ok. e .1 ok .3))
+    (f .output5 .ensures ∙ output-from r (l .1 .1 .1 .1 .0) (λ ok. e .1 ok .4))
 
 pub coefficients-spec : {M : Type 1} → statement M
 coefficients-spec =

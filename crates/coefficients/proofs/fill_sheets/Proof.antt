@@ -17,14 +17,14 @@ use Rattle.coefficients.proofs.fill_sheets.Statement.{statement}
 use Rattle.coefficients.proofs.fill_sheets.Tie as tie
 
 abbrev entry : tie.After-check-called → tie.Start
-entry q = q .before .before .before .before .before .before .before .before .before .before .before .before
+entry q = q .before .before .before .before .before .before .before .before .before .before .before .before .before
 
 abbrev table : tie.Start → Table
 table s =
     let a = s .args in
-    tableOf (a .n) (a .x .now) (a .final-demand .now ∷ a .exports .now ∷ a .imports .now ∷ a .value-added .now ∷ a .production .now ∷ [])
+    tableOf (a .n) (a .x .now) (a .final-demand .now ∷ a .exports .now ∷ a .imports .now ∷ a .value-added .now ∷ a .production .now ∷ a .adjustment .now ∷ [])
 
--- the lengths of the outputs, questions 1 to 6, and question 7
+-- the lengths of the outputs, the questions up to 6, and question 7
 abbrev matrices : tie.Start → List ℕ
 matrices s = length (s .args .a .now) ∷ length (s .args .d .now) ∷ []
 
@@ -37,7 +37,7 @@ asked q = tableChecks (table (entry q)) (matrices (entry q)) (columns (entry q))
 abbrev last : tie.After-check-called → List Check
 last q = let n = entry q .args .n in columnSums n (at n (domesticCoefficients (table (entry q)))) ∷ []
 
--- past questions 1 to 6: what they say
+-- past those up to 6: what they say
 abbrev start : tie.After-enum-told → tie.Start
 start p = entry (p .before .before)
 
@@ -102,6 +102,7 @@ finish-requires c κs =
         i .fill-import-shares .kept .1 .1 .1 .1 .0 ∙ A .slices .1 .0,
         z .columns 0 (lit< tt),
         z .columns 1 (lit< tt),
+        z .columns 5 (lit< tt),
         A .squares .1 .0,
         A .slices .1 .1 .0,
       ),
@@ -109,7 +110,7 @@ finish-requires c κs =
         subst⁻¹ (λ (l : List ℕ). (k : ℕ) → k < n * n → cell l k ≤ one) (inputs-are i) (inputs-small t (z .some) (A .small) (A .balance)),
         (
           subst⁻¹ (λ (l : List ℕ). (k : ℕ) → k < n → cell l k ≤ one) (imports-are i) (imports-small t (A .small) (A .balance)),
-          λ k. (A .small .columns 0 k, A .small .columns 1 k),
+          λ k. (A .small .columns 0 k, A .small .columns 1 k, A .small .columns 5 k),
         ),
       ),
     )
