@@ -99,7 +99,7 @@ enum tawqeshim_number {
     /* kind 8 comes, with no byte after it. Place: the file's length if no end came, otherwise the offset after the end */
     TAWQESHIM_REFUSED_END = 15,
     /* a sector's exports and adjustment together are within 1,000,000,000; asked after 3, before 4. Place: the first sector over */
-    TAWQESHIM_REFUSED_OUTFLOW = 16,
+    TAWQESHIM_REFUSED_EXPORTS = 16,
     /* the last number */
     TAWQESHIM_QUESTIONS = 16
 };

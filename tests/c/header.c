@@ -37,10 +37,10 @@ static void questions(void) {
         for (int other = 1; other < k; other++)
             expect(strcmp(text, tawqeshim_question((uint8_t)other)) != 0, "two questions have one text");
     }
-    expect(TAWQESHIM_REFUSED_OUTFLOW == TAWQESHIM_QUESTIONS, "the last question is not the last number");
+    expect(TAWQESHIM_REFUSED_EXPORTS == TAWQESHIM_QUESTIONS, "the last question is not the last number");
     expect(strcmp(tawqeshim_question(TAWQESHIM_REFUSED_ROUNDS), "do the rounds settle within the budget?") == 0, "the text of question 9");
     expect(strcmp(tawqeshim_question(TAWQESHIM_REFUSED_END), "does kind 8 come, with no byte after it?") == 0, "the text of question 15");
-    expect(strstr(tawqeshim_question(TAWQESHIM_REFUSED_OUTFLOW), "exports and adjustment") != NULL, "the text of question 16");
+    expect(strstr(tawqeshim_question(TAWQESHIM_REFUSED_EXPORTS), "exports and adjustment") != NULL, "the text of question 16");
 }
 
 /* One sector, whose coefficient, demand and rise may be at a limit or one over it. */
@@ -92,7 +92,7 @@ static void limits(void) {
     adjust(0, limit);
     answers(TAWQESHIM_ACCEPTED, 0, "an adjustment at its limit");
     adjust(limit, 1);
-    answers(TAWQESHIM_REFUSED_OUTFLOW, 0, "exports and adjustment over their limit");
+    answers(TAWQESHIM_REFUSED_EXPORTS, 0, "exports and adjustment over their limit");
     expect(sheets_are(0, 0), "a sheet that is refused with 16 is not 0");
     adjust(0, limit + 1);
     answers(TAWQESHIM_REFUSED_AMOUNT, 6, "an adjustment over its limit");

@@ -156,7 +156,7 @@ static uint8_t ask_amounts(const uint8_t *file, size_t length, size_t *place) {
     *place = first_over(&t, MARKS - 1);
     if (*place != SIZE_MAX) return TAWQESHIM_REFUSED_AMOUNT;
     for (*place = 0; *place < t.n; ++*place)
-        if (t.cells[2][*place] + t.cells[6][*place] > TAWQESHIM_AMOUNT_LIMIT) return TAWQESHIM_REFUSED_OUTFLOW;
+        if (t.cells[2][*place] + t.cells[6][*place] > TAWQESHIM_AMOUNT_LIMIT) return TAWQESHIM_REFUSED_EXPORTS;
     return TAWQESHIM_ACCEPTED;
 }
 
