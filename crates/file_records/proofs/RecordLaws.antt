@@ -84,6 +84,10 @@ module _ (s : List ℕ) (at : ℕ) where
       go true long e = let h = long refl in (omega arith, omega arith)
       go false long e = let h = b .0 in (omega arith, omega arith)
 
+  -- and one that names a cell of a column has six
+  pub column-size : Body s at → (kindAt s at ≡ 2 → ⊥) → cell recordLengths (kindAt s at) ≡ 6
+  column-size b k = b .2 ∙ ap (λ (t : Bool). cond t 7 6) (ne-eqb (kindAt s at) 2 k)
+
   -- its amount is the last four of them
   pub amount-last : cell recordLengths (kindAt s at) ≡ cond (isFlow s at) 7 6 → amountFrom s (nextAt s at - 4) ≡ entryAt s at .amount
   amount-last = go (isFlow s at) refl

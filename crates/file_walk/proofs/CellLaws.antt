@@ -2,16 +2,18 @@
 use mathlib.Core.Bool.{Bool, cond}
 use mathlib.Core.List.{List, [], _∷_}
 use mathlib.Core.Logic.{_⊎_, inl, inr}
-use mathlib.Core.Path.{_≡_, refl, sym, ap, _∙_}
-use Prim.Native.Nat.{ℕ, zero, suc, _+_, _-_, _*_, _≤_, _<_}
+use mathlib.Core.Path.{_≡_, sym, ap, _∙_}
+use Prim.Native.Nat.{ℕ, _+_, _-_, _*_, _≤_, _<_}
 use native.Mathlib.Decide.{decLt, ℕ-discrete}
-use native.Mathlib.Nat.{mul-le-mul, zero-add, suc-add}
+use native.Mathlib.Nat.{mul-le-mul}
 use native.Mathlib.Omega.{arith}
 use borrow.Author.Tests.{lt-ltb, le-ltb, eq-eqb, ne-eqb}
+use lib.Dec.{lit≤}
 use lib.ListN.{length, set, take, drop, replicate, length-set, length-replicate}
 use lib.Seq.{take-set-lt, take-set-le, drop-set-lt, drop-set-add}
 use Rattle.model.specs.Table.{sectorLimit, sheetLimit}
 use Rattle.model.specs.File.{Entry, Within, Reading, flowsOf, columnOf, cellLimit, wordLimit}
+use Rattle.theory.proofs.Lists.{zeros-part}
 use Rattle.file_walk.specs.Steps.{Held}
 
 -- a row starts at most 1,560 cells in
@@ -75,22 +77,13 @@ module _ (n : ℕ) (small : n ≤ sectorLimit) (e : Entry) (w : Within n e) (es 
   }
 
 -- cells of 0
-part-zeros : (a b d : ℕ) → take {A = ℕ} b (drop a (replicate (a + (b + d)) 0)) ≡ replicate b 0
-part-zeros zero zero d = refl
-part-zeros zero (suc b) d =
-    ap (λ (k : ℕ). take {A = ℕ} (suc b) (replicate k 0)) (zero-add (suc b + d) ∙ suc-add b d)
-    ∙ ap (λ (l : List ℕ). 0 ∷ l) (ap (λ (k : ℕ). take {A = ℕ} b (replicate k 0)) (sym (zero-add (b + d))) ∙ part-zeros zero b d)
-part-zeros (suc a) b d = ap (λ (k : ℕ). take {A = ℕ} b (drop (suc a) (replicate k 0))) (suc-add a (b + d)) ∙ part-zeros a b d
-
 module _ (l : List ℕ) (q : l ≡ replicate cellLimit 0) where
   zero-flows : take sheetLimit l ≡ replicate sheetLimit 0
-  zero-flows = ap (take sheetLimit) q ∙ part-zeros 0 sheetLimit (cellLimit - sheetLimit)
+  zero-flows = ap (take sheetLimit) q ∙ zeros-part 0 sheetLimit cellLimit (lit≤ tt)
 
   zero-columns : (c : ℕ) → sectorLimit ≤ c → c < wordLimit → take sectorLimit (drop (c * sectorLimit) l) ≡ replicate sectorLimit 0
   zero-columns c lo hi =
-      let z : cellLimit ≡ c * sectorLimit + (sectorLimit + (cellLimit - (c * sectorLimit + sectorLimit))) = omega arith in
-      ap (λ (k : List ℕ). take sectorLimit (drop (c * sectorLimit) k)) q
-      ∙ ap (λ (k : ℕ). take {A = ℕ} sectorLimit (drop (c * sectorLimit) (replicate k 0))) z ∙ part-zeros (c * sectorLimit) sectorLimit (cellLimit - (c * sectorLimit + sectorLimit))
+      ap (λ (k : List ℕ). take sectorLimit (drop (c * sectorLimit) k)) q ∙ zeros-part (c * sectorLimit) sectorLimit cellLimit (omega arith)
 
   zero-long : length l ≡ cellLimit
   zero-long = ap length q ∙ length-replicate {A = ℕ} cellLimit 0

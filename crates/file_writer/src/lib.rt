@@ -54,8 +54,8 @@ fn put_columns(
     at: usize,
     file: &mut [u8],
 ) -> usize
-    requires { ⌜ ((c : ℕ) → c < length columnKinds → length (getD (now «final_demand» ∷ now exports ∷ now imports ∷ now «value_added» ∷ now production ∷ now rises ∷ now adjustment ∷ []) c []) ≤ sectorLimit) ⌝ }
-    requires { ⌜ ((c k : ℕ) → cell (getD (now «final_demand» ∷ now exports ∷ now imports ∷ now «value_added» ∷ now production ∷ now rises ∷ now adjustment ∷ []) c []) k ≤ amountLimit) ⌝ }
+    requires { ⌜ (let columns = now «final_demand» ∷ now exports ∷ now imports ∷ now «value_added» ∷ now production ∷ now rises ∷ now adjustment ∷ [] in
+        (c : ℕ) → c < length columnKinds → (length (getD columns c []) ≤ sectorLimit) × ((k : ℕ) → cell (getD columns c []) k ≤ amountLimit)) ⌝ }
     requires { ⌜ at + length (encodeAll (wordsEntries sectorLimit (now «final_demand» ∷ now exports ∷ now imports ∷ now «value_added» ∷ now production ∷ now rises ∷ now adjustment ∷ []))) ≤ length (now file) ⌝ }
     ensures { λ r. ⌜ r ≡ at + length (encodeAll (wordsEntries sectorLimit (now («final_demand» .entry) ∷ now (exports .entry) ∷ now (imports .entry) ∷ now («value_added» .entry) ∷ now (production .entry) ∷ now (rises .entry) ∷ now (adjustment .entry) ∷ []))) ⌝ }
     ensures { λ _. ⌜ now (file .exit) ≡ sets (now (file .entry)) at (encodeAll (wordsEntries sectorLimit (now («final_demand» .entry) ∷ now (exports .entry) ∷ now (imports .entry) ∷ now («value_added» .entry) ∷ now (production .entry) ∷ now (rises .entry) ∷ now (adjustment .entry) ∷ []))) ⌝ }

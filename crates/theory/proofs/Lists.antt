@@ -10,7 +10,7 @@ use native.Mathlib.Omega.{arith}
 use borrow.Author.Count.{below-more}
 use borrow.Author.Tests.{leb-true, eqb-true}
 use lib.Dec.{eqb, leb}
-use lib.ListN.{length, getD, set, replicate, length-set, length-replicate, getD-replicate, List·getD-eq-default}
+use lib.ListN.{length, getD, set, take, drop, replicate, length-set, length-replicate, getD-replicate, List·getD-eq-default}
 use lib.Seq.{ext-getD, getD-set-same, getD-set-other}
 use Rattle.model.specs.Numbers.{first, all, tabulate, tabulateCells, cell, same}
 use Rattle.model.specs.Promises.{Equal}
@@ -192,3 +192,11 @@ cell-zeros len k = split (decLt k len)
     split : Dec (k < len) → cell (replicate len 0) k ≡ 0
     split (yes h) = getD-replicate len k 0 0 h
     split (no h) = List·getD-eq-default (replicate len 0) 0 (omega (arith, length-replicate {A = ℕ} len 0))
+
+-- a part of zeros is zeros
+pub zeros-part : (from count len : ℕ) → from + count ≤ len → take {A = ℕ} count (drop from (replicate len 0)) ≡ replicate count 0
+zeros-part zero zero len h = refl
+zeros-part zero (suc count) zero h = absurd (omega arith)
+zeros-part zero (suc count) (suc len) h = ap (λ (l : List ℕ). 0 ∷ l) (zeros-part zero count len (omega arith))
+zeros-part (suc from) count zero h = absurd (omega arith)
+zeros-part (suc from) count (suc len) h = zeros-part from count len (omega arith)

@@ -52,10 +52,10 @@ module _ (t : Table) (f : Fit t) where
   rows-known w h = (omega (arith, few), λ _. h)
 
   -- the columns in the order of their kinds
-  by-kind : (k : ℕ) → k < length columnKinds → getD (columnsByKind t) k [] ≡ column t (kindPlace k)
+  pub by-kind : (k : ℕ) → k < length columnKinds → getD (columnsByKind t) k [] ≡ column t (kindPlace k)
   by-kind = slice-made (length columnKinds) (λ k. column t (kindPlace k))
 
-  by-kind-long : Columns n (columnsByKind t)
+  pub by-kind-long : Columns n (columnsByKind t)
   by-kind-long k h = ap length (by-kind k h) ∙ f .sizes .columns (kindPlace k) (subst (λ (m : ℕ). kindPlace k < m) (sym (f .count)) (place-back k h .0))
 
   columns-known : (w : ℕ) → sectorLimit ≤ w → w < sectorLimit + length columnKinds → Known n w

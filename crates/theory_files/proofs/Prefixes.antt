@@ -25,11 +25,14 @@ cell-take (suc k) (b ∷ s) zero h = refl
 cell-take (suc k) (b ∷ s) (suc i) h = cell-take k s i (le-of-suc-le-suc h)
 
 record-most : (k : ℕ) → cell recordLengths k ≤ 7
-record-most k = go (ltb k 10) refl
+record-most k = go (ltb k kinds) refl
   where
-    go : (b : Bool) → ltb k 10 ≡ b → cell recordLengths k ≤ 7
-    go true e = leb-true _ _ (first-before 10 (λ i. leb (cell recordLengths i) 7) k (ltb-true k 10 e))
-    go false e = rw (no-kind k (ltb-false k 10 e)) (omega arith)
+    kinds : ℕ
+    kinds = length recordLengths
+
+    go : (b : Bool) → ltb k kinds ≡ b → cell recordLengths k ≤ 7
+    go true e = leb-true _ _ (first-before kinds (λ i. leb (cell recordLengths i) 7) k (ltb-true k kinds e))
+    go false e = rw (no-kind k (ltb-false k kinds e)) (omega arith)
 
 -- a choice whose one side is the same wherever it is taken
 cond-then : (b : Bool) (x y z : Reading) → (b ≡ true → x ≡ y) → cond b x z ≡ cond b y z

@@ -7,6 +7,13 @@ use Rattle.file_reader.proofs.Delivery.{fit-or-not, either, put-flows, 
 use Rattle.file_reader.proofs.deliver.Statement.{statement}
 use Rattle.file_reader.proofs.deliver.Tie as tie
 
+-- from the fifth part to the first, and to the start
+abbrev first : tie.After-put-part5 → tie.After-put-part
+first c = c .before .before .before .before .before .before .before .before .before .before .before .before .before .before .before .before
+
+abbrev start : tie.After-put-part5 → tie.Start
+start c = first c .before .before .before .before .before .before .before .before .before .before .before
+
 returns : tie.Need-returns
 returns c =
     let c8 = c .before .before in
@@ -35,9 +42,6 @@ deliver-spec =
     tie.close
     (tie.spec
     (λ c κs. search needs) (λ c κs. search needs) (λ c κs. search needs) (λ c κs. search needs) (λ c κs. search needs) (λ c κs. search needs)
-    (λ c κs.
-    let c5 = c .before .before .before .before .before .before .before in
-    let c3 = c5 .before .before .before .before .before .before .before .before in
-    let c1 = c3 .before .before .before .before .before .before .before .before in
-    omega (arith, c1 .before .before .before .before .before .before .before .before .before .before .pre))
+    (λ c κs. omega (arith, start (c .before .before .before .before .before .before .before) .pre)) (λ c κs. omega (arith, start (c .before .before .before .before .before .before .before .before .before .before .before) .pre))
+    (λ c. first (c .before .before .before .before .before .before .before .before .before .before .before .before .before .before) .put-part .kept .1 .1 .1 .0)
     (λ c. search needs) (λ c. search needs) (λ c. search needs) (λ c. search needs) (λ c. search needs) (λ c. search needs) (λ c. search needs) returns)

@@ -26,7 +26,7 @@ Done s = Words sectorLimit (columns s) (s .args .at) (s .args .file .now)
 next : (s : tie.Start) (k : ℕ) {m : List ℕ} {j : ℕ} → k < length columnKinds → Done s k m j
     → ((sectorLimit + k < wordLimit) × (length (getD (columns s) k []) ≤ sectorLimit))
     × (((i : ℕ) → cell (getD (columns s) k []) i ≤ amountLimit) × (j + length (wordEncoded (sectorLimit + k) (getD (columns s) k [])) ≤ length m))
-next s k h w = ((omega arith, s .pre .0 k h), (s .pre .1 .0 k, words-room w h refl (s .pre .1 .1)))
+next s k h w = let p = s .pre .0 k h in ((omega arith, p .0), (p .1, words-room w h refl (s .pre .1)))
 
 -- after each call
 abbrev start : tie.After-put-word-arg → tie.Start

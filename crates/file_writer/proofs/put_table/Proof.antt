@@ -7,8 +7,10 @@ use native.Mathlib.Omega.{arith}
 use borrow.Author.Needs.{needs}
 use lib.ListN.{length}
 use Rattle.model.specs.Table.{Table, tableOf, sectorLimit}
+use Rattle.model.specs.File.{kindPlace}
 use Rattle.model.specs.Writer.{rows, columnsByKind, written}
 use Rattle.theory.proofs.Stores.{Begun, begin, go-on, done, room, room-first}
+use Rattle.theory_archives.proofs.Holding.{Fit, by-kind, by-kind-long}
 use Rattle.file_writer.proofs.TableLaws.{wordsEncoded, table-parts}
 use Rattle.file_writer.proofs.put_table.Statement.{statement}
 use Rattle.file_writer.proofs.put_table.Tie as tie
@@ -67,23 +69,15 @@ put-rows-requires c κs =
     let s = entry q in
     ((s .pre .0 .few, s .pre .0 .flows), (s .pre .1 .flows, room-first (flows s) (columns s ++ (8 ∷ [])) refl (fits s) (opened q)))
 
--- the columns as they are written are those of the table
-ordered-long : (s : tie.Start) (k : ℕ) → k < length columnKinds → length (getD (columnsByKind (table s)) k []) ≡ s .args .n
-ordered-long s k h =
-    ap length (slice-made (length columnKinds) (λ c. column (table s) (kindPlace c)) k h) ∙ s .pre .0 .columns (kindPlace k) (place-back k h .0)
-
-ordered-small : (s : tie.Start) (k i : ℕ) → cell (getD (columnsByKind (table s)) k []) i ≤ amountLimit
-ordered-small s k i = go (ltb k (length columnKinds)) refl
-  where
-    go : (b : Bool) → ltb k (length columnKinds) ≡ b → cell (getD (columnsByKind (table s)) k []) i ≤ amountLimit
-    go true h = rw (slice-made (length columnKinds) (λ c. column (table s) (kindPlace c)) k (ltb-true k (length columnKinds) h)) (s .pre .1 .columns (kindPlace k) i)
-    go false h = rw (List·getD-eq-default (columnsByKind (table s)) [] {n = k} (ltb-false k (length columnKinds) h)) zero-le
-
 put-columns-requires : tie.Need-put-columns-requires
 put-columns-requires c κs =
     let q = c .before .before .before in
     let s = entry (before-rows q) in
-    (λ k h. omega (arith, s .pre .0 .few, ordered-long s k h), (ordered-small s, room-first (columns s) (8 ∷ []) refl (fits s) (listed q)))
+    let t = table s in
+    let f : Fit t = record { sizes = s .pre .0; count = refl } in (
+      λ k h. (omega (arith, s .pre .0 .few, by-kind-long t f k h), λ i. rw (by-kind t f k h) (s .pre .1 .columns (kindPlace k) i)),
+      room-first (columns s) (8 ∷ []) refl (fits s) (listed q),
+    )
 
 put-byte-requires : tie.Need-put-byte-requires
 put-byte-requires c κs =
