@@ -5,8 +5,8 @@ use Rattle.c_files.proofs.tawqeshim_read_table.Statement.{statement}
 use Rattle.c_files.proofs.tawqeshim_read_table.Tie as tie
 
 returns : tie.Need-returns
-returns c = read-told (c .tell-read .ensures) (c .before .before .before .before .before .before .before .before .before .before .before .before .before .before .before .before .before .before .before .before .before .read-table .ensures)
+returns c = read-told (c .tell-read .ensures) (c .before .before .before .before .before .before .before .before .before .before .before .before .before .before .before .before .before .before .before .before .before .before .before .read-table .ensures)
 
 pub tawqeshim-read-table-spec : {M : Type 1} → statement M
 tawqeshim-read-table-spec =
-    tie.close (tie.spec (λ c κs. search needs) (λ c κs. search needs) (λ c. search needs) (λ c. search needs) (λ c. search needs) (λ c. search needs) (λ c. search needs) (λ c. search needs) (λ c. search needs) (λ c. search needs) returns)
+    tie.close (tie.spec (λ c κs. search needs) (λ c κs. search needs) (λ c. search needs) (λ c. search needs) (λ c. search needs) (λ c. search needs) (λ c. search needs) (λ c. search needs) (λ c. search needs) (λ c. search needs) (λ c. search needs) returns)
