@@ -4,7 +4,7 @@
 #include <stdbool.h>
 #include <string.h>
 
-enum { ONE = 1000000, COLUMN = 950000, AMOUNT = 1000000000, SECTORS = 40, MARKS = 46 };
+enum { ONE = 1000000, COLUMN = 950000, AMOUNT = 1000000000, SECTORS = 40, COLUMNS = 7, MARKS = SECTORS + COLUMNS };
 
 // One round along the rows. Did it change no sector?
 static bool turn_rows(
@@ -203,16 +203,16 @@ static uint64_t amount_from(const uint8_t *s)
 
 // The records, into lines of cells: the number of the first question answered no, or 0.
 static uint8_t walk(
-    const uint8_t *file, size_t length, uint64_t *x, uint64_t *const columns[6], uint64_t *marks, size_t *place,
+    const uint8_t *file, size_t length, uint64_t *x, uint64_t *const columns[COLUMNS], uint64_t *marks, size_t *place,
     size_t *sectors, size_t *named)
 {
-    static const uint8_t lengths[10] = {0, 2, 7, 6, 6, 6, 6, 6, 1, 6};
-    static const uint8_t lines[10] = {0, 0, 0, 40, 41, 42, 43, 44, 0, 45};
+    static const uint8_t lengths[11] = {0, 2, 7, 6, 6, 6, 6, 6, 1, 6, 6};
+    static const uint8_t lines[11] = {0, 0, 0, 40, 41, 42, 43, 44, 0, 46, 45};
     size_t n = 0, at = 0, count = 0;
     while (at < length) {
         uint8_t kind = file[at];
         *place = at;
-        if (kind < 1 || 9 < kind || length - at < lengths[kind])
+        if (kind < 1 || 10 < kind || length - at < lengths[kind])
             return 11;
         if ((at == 0) != (kind == 1))
             return 12;
@@ -249,10 +249,10 @@ static uint8_t walk(
     return 15;
 }
 
-static void clear(uint64_t *x, uint64_t *const columns[6])
+static void clear(uint64_t *x, uint64_t *const columns[COLUMNS])
 {
     memset(x, 0, SECTORS * SECTORS * sizeof *x);
-    for (int k = 0; k < 6; k++)
+    for (int k = 0; k < COLUMNS; k++)
         memset(columns[k], 0, SECTORS * sizeof *columns[k]);
 }
 
@@ -260,13 +260,13 @@ void c_read_table(
     const uint8_t *file, size_t file_length, uint64_t *x, size_t x_length,
     uint64_t *final_demand, size_t final_demand_length, uint64_t *exports, size_t exports_length,
     uint64_t *imports, size_t imports_length, uint64_t *value_added, size_t value_added_length,
-    uint64_t *production, size_t production_length, uint64_t *rises, size_t rises_length,
-    uint64_t *marks, size_t marks_length,
+    uint64_t *production, size_t production_length, uint64_t *adjustment, size_t adjustment_length,
+    uint64_t *rises, size_t rises_length, uint64_t *marks, size_t marks_length,
     uint8_t *number, size_t *place, size_t *sectors, size_t *named)
 {
-    uint64_t *const columns[6] = {final_demand, exports, imports, value_added, production, rises};
+    uint64_t *const columns[COLUMNS] = {final_demand, exports, imports, value_added, production, adjustment, rises};
     (void)x_length, (void)final_demand_length, (void)exports_length, (void)imports_length, (void)value_added_length;
-    (void)production_length, (void)rises_length, (void)marks_length;
+    (void)production_length, (void)adjustment_length, (void)rises_length, (void)marks_length;
     *sectors = 0;
     *named = 0;
     clear(x, columns);
@@ -278,13 +278,13 @@ void c_read_table(
 }
 
 // Questions 1 and 3 of a table: the number of the first answered no, or 0.
-static uint8_t ask_table(size_t n, const uint64_t *x, const uint64_t *const columns[6], size_t *place)
+static uint8_t ask_table(size_t n, const uint64_t *x, const uint64_t *const columns[COLUMNS], size_t *place)
 {
     *place = 0;
     if (n < 1 || SECTORS < n)
         return 1;
     size_t cell = cell_over(n * n, x, AMOUNT), before = n * n;
-    for (int k = 0; k < 6 && cell == before; k++) {
+    for (int k = 0; k < COLUMNS && cell == before; k++) {
         cell += cell_over(n, columns[k], AMOUNT);
         before += n;
     }
@@ -300,22 +300,24 @@ static uint8_t *put_amount(uint8_t *p, uint64_t amount)
     return p + 4;
 }
 
-// The cells that are not 0, kind by kind. The end of what was written.
-static uint8_t *put_cells(size_t n, const uint64_t *x, const uint64_t *const columns[6], uint8_t *p)
+// The cells that are not 0, kind by kind: the rises, which are the last column, before the adjustment. The end of what was written.
+static uint8_t *put_cells(size_t n, const uint64_t *x, const uint64_t *const columns[COLUMNS], uint8_t *p)
 {
-    static const uint8_t kinds[6] = {3, 4, 5, 6, 7, 9};
+    static const uint8_t kinds[COLUMNS] = {3, 4, 5, 6, 7, 9, 10}, order[COLUMNS] = {0, 1, 2, 3, 4, 6, 5};
     for (size_t i = 0; i < n; i++)
         for (size_t j = 0; j < n; j++)
             if (x[i * n + j] != 0) {
                 *p++ = 2, *p++ = (uint8_t)(i + 1), *p++ = (uint8_t)(j + 1);
                 p = put_amount(p, x[i * n + j]);
             }
-    for (int k = 0; k < 6; k++)
+    for (int k = 0; k < COLUMNS; k++) {
+        const uint64_t *column = columns[order[k]];
         for (size_t i = 0; i < n; i++)
-            if (columns[k][i] != 0) {
+            if (column[i] != 0) {
                 *p++ = kinds[k], *p++ = (uint8_t)(i + 1);
-                p = put_amount(p, columns[k][i]);
+                p = put_amount(p, column[i]);
             }
+    }
     return p;
 }
 
@@ -323,13 +325,13 @@ void c_write_table(
     size_t n, const uint64_t *x, size_t x_length,
     const uint64_t *final_demand, size_t final_demand_length, const uint64_t *exports, size_t exports_length,
     const uint64_t *imports, size_t imports_length, const uint64_t *value_added, size_t value_added_length,
-    const uint64_t *production, size_t production_length, const uint64_t *rises, size_t rises_length,
-    uint8_t *file, size_t file_length,
+    const uint64_t *production, size_t production_length, const uint64_t *adjustment, size_t adjustment_length,
+    const uint64_t *rises, size_t rises_length, uint8_t *file, size_t file_length,
     uint8_t *number, size_t *place, size_t *length)
 {
-    const uint64_t *const columns[6] = {final_demand, exports, imports, value_added, production, rises};
+    const uint64_t *const columns[COLUMNS] = {final_demand, exports, imports, value_added, production, adjustment, rises};
     (void)x_length, (void)final_demand_length, (void)exports_length, (void)imports_length, (void)value_added_length;
-    (void)production_length, (void)rises_length;
+    (void)production_length, (void)adjustment_length, (void)rises_length;
     uint8_t *p = file;
     *number = ask_table(n, x, columns, place);
     if (*number == 0) {

@@ -20,16 +20,16 @@ typedef void reading(
     const uint8_t *file, size_t file_length, uint64_t *x, size_t x_length,
     uint64_t *final_demand, size_t final_demand_length, uint64_t *exports, size_t exports_length,
     uint64_t *imports, size_t imports_length, uint64_t *value_added, size_t value_added_length,
-    uint64_t *production, size_t production_length, uint64_t *rises, size_t rises_length,
-    uint64_t *marks, size_t marks_length,
+    uint64_t *production, size_t production_length, uint64_t *adjustment, size_t adjustment_length,
+    uint64_t *rises, size_t rises_length, uint64_t *marks, size_t marks_length,
     uint8_t *number, size_t *place, size_t *sectors, size_t *named);
 
 typedef void writing(
     size_t n, const uint64_t *x, size_t x_length,
     const uint64_t *final_demand, size_t final_demand_length, const uint64_t *exports, size_t exports_length,
     const uint64_t *imports, size_t imports_length, const uint64_t *value_added, size_t value_added_length,
-    const uint64_t *production, size_t production_length, const uint64_t *rises, size_t rises_length,
-    uint8_t *file, size_t file_length,
+    const uint64_t *production, size_t production_length, const uint64_t *adjustment, size_t adjustment_length,
+    const uint64_t *rises, size_t rises_length, uint8_t *file, size_t file_length,
     uint8_t *number, size_t *place, size_t *length);
 
 settling c_production, c_price, rust_production, rust_price;

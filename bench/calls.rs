@@ -6,6 +6,7 @@ const ONE: u64 = 1_000_000;
 const COLUMN: u64 = 950_000;
 const AMOUNT: u64 = 1_000_000_000;
 const SECTORS: usize = 40;
+const COLUMNS: usize = 7;
 
 /// The number of the first question answered no, and its place.
 type Refusal = (u8, usize);
@@ -142,8 +143,8 @@ fn invert(n: usize, d: &[u64], budget: u32, sheet: &mut [u64]) -> Result<u32, Re
 }
 
 /// Bytes of a record by its kind, and the line of a column.
-const LENGTHS: [usize; 10] = [0, 2, 7, 6, 6, 6, 6, 6, 1, 6];
-const LINES: [usize; 10] = [0, 0, 0, 40, 41, 42, 43, 44, 0, 45];
+const LENGTHS: [usize; 11] = [0, 2, 7, 6, 6, 6, 6, 6, 1, 6, 6];
+const LINES: [usize; 11] = [0, 0, 0, 40, 41, 42, 43, 44, 0, 46, 45];
 
 fn amount_from(s: &[u8]) -> u64 {
     u32::from_be_bytes([s[0], s[1], s[2], s[3]]).into()
@@ -153,13 +154,13 @@ fn amount_from(s: &[u8]) -> u64 {
 fn walk(
     file: &[u8],
     x: &mut [u64],
-    columns: &mut [&mut [u64]; 6],
+    columns: &mut [&mut [u64]; COLUMNS],
     marks: &mut [u64],
 ) -> Result<(usize, usize), Refusal> {
     let (mut n, mut at, mut named) = (0, 0, 0);
     while at < file.len() {
         let kind = file[at] as usize;
-        if !(1..=9).contains(&kind) || file.len() - at < LENGTHS[kind] {
+        if !(1..=10).contains(&kind) || file.len() - at < LENGTHS[kind] {
             return Err((11, at));
         }
         let record = &file[at..at + LENGTHS[kind]];
@@ -203,7 +204,7 @@ fn walk(
 fn read(
     file: &[u8],
     x: &mut [u64],
-    columns: &mut [&mut [u64]; 6],
+    columns: &mut [&mut [u64]; COLUMNS],
     marks: &mut [u64],
 ) -> Result<(usize, usize), Refusal> {
     x.fill(0);
@@ -218,10 +219,10 @@ fn read(
     answer
 }
 
-/// Kinds of the columns.
-const KINDS: [u8; 6] = [3, 4, 5, 6, 7, 9];
+/// Kinds in their order, and the column of each: the rises are the last column, and the adjustment the last kind.
+const KINDS: [(u8, usize); COLUMNS] = [(3, 0), (4, 1), (5, 2), (6, 3), (7, 4), (9, 6), (10, 5)];
 
-fn check_table(n: usize, x: &[u64], columns: &[&[u64]; 6]) -> Result<(), Refusal> {
+fn check_table(n: usize, x: &[u64], columns: &[&[u64]; COLUMNS]) -> Result<(), Refusal> {
     if !(1..=SECTORS).contains(&n) {
         return Err((1, 0));
     }
@@ -239,7 +240,7 @@ fn put<const N: usize>(file: &mut [u8], at: usize, bytes: [u8; N]) -> usize {
 }
 
 /// The table as a file, and zeros after it: the file's length.
-fn write(n: usize, x: &[u64], columns: &[&[u64]; 6], file: &mut [u8]) -> Result<usize, Refusal> {
+fn write(n: usize, x: &[u64], columns: &[&[u64]; COLUMNS], file: &mut [u8]) -> Result<usize, Refusal> {
     check_table(n, x, columns)?;
     let mut at = put(file, 0, [1, n as u8]);
     for (i, row) in (1..).zip(x.chunks_exact(n)) {
@@ -250,8 +251,8 @@ fn write(n: usize, x: &[u64], columns: &[&[u64]; 6], file: &mut [u8]) -> Result<
             }
         }
     }
-    for (kind, column) in KINDS.into_iter().zip(columns) {
-        for (i, &cell) in (1..).zip(*column) {
+    for (kind, column) in KINDS {
+        for (i, &cell) in (1..).zip(columns[column]) {
             if cell != 0 {
                 at = put(file, at, [kind, i]);
                 at = put(file, at, (cell as u32).to_be_bytes());
@@ -362,6 +363,8 @@ pub unsafe extern "C" fn rust_read_table(
     value_added_length: usize,
     production: *mut u64,
     production_length: usize,
+    adjustment: *mut u64,
+    adjustment_length: usize,
     rises: *mut u64,
     rises_length: usize,
     marks: *mut u64,
@@ -379,6 +382,7 @@ pub unsafe extern "C" fn rust_read_table(
         from_raw_parts_mut(imports, imports_length),
         from_raw_parts_mut(value_added, value_added_length),
         from_raw_parts_mut(production, production_length),
+        from_raw_parts_mut(adjustment, adjustment_length),
         from_raw_parts_mut(rises, rises_length),
     ];
     let marks = from_raw_parts_mut(marks, marks_length);
@@ -402,6 +406,8 @@ pub unsafe extern "C" fn rust_write_table(
     value_added_length: usize,
     production: *const u64,
     production_length: usize,
+    adjustment: *const u64,
+    adjustment_length: usize,
     rises: *const u64,
     rises_length: usize,
     file: *mut u8,
@@ -417,6 +423,7 @@ pub unsafe extern "C" fn rust_write_table(
         from_raw_parts(imports, imports_length),
         from_raw_parts(value_added, value_added_length),
         from_raw_parts(production, production_length),
+        from_raw_parts(adjustment, adjustment_length),
         from_raw_parts(rises, rises_length),
     ];
     let file = from_raw_parts_mut(file, file_length);

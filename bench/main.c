@@ -8,7 +8,7 @@
 #include <string.h>
 #include <time.h>
 
-enum { SECTORS = TAWQESHIM_SECTORS, CELLS = TAWQESHIM_CELLS, MARKS = TAWQESHIM_MARKS, FILE_BYTES = TAWQESHIM_FILE };
+enum { SECTORS = TAWQESHIM_SECTORS, CELLS = TAWQESHIM_CELLS, MARKS = TAWQESHIM_MARKS, FILE_BYTES = TAWQESHIM_FILE, COLUMNS = 7 };
 enum { WAYS = 3, REPETITIONS = 31 };
 static const uint32_t BUDGET = UINT32_MAX;
 
@@ -36,7 +36,7 @@ struct input {
     uint64_t d[CELLS], start[2][SECTORS]; // a demand, and direct rises
     uint8_t file[FILE_BYTES];
     size_t length;
-    uint64_t x[CELLS], columns[6][SECTORS]; // the table of the file
+    uint64_t x[CELLS], columns[COLUMNS][SECTORS]; // the table of the file, the adjustment and the rises last
 };
 
 // What it gives. Unused cells stay 0.
@@ -44,7 +44,7 @@ struct output {
     uint8_t number;
     size_t place, sectors, named, length;
     uint32_t rounds;
-    uint64_t sheet[CELLS], columns[6][SECTORS], work[MARKS];
+    uint64_t sheet[CELLS], columns[COLUMNS][SECTORS], work[MARKS];
     uint8_t file[FILE_BYTES];
 };
 
@@ -55,11 +55,11 @@ static void run(enum call call, int way, const struct input *in, struct output *
     if (call == READ)
         ways[way].read_table(
             in->file, in->length, out->sheet, CELLS, c[0], SECTORS, c[1], SECTORS, c[2], SECTORS, c[3], SECTORS, c[4],
-            SECTORS, c[5], SECTORS, out->work, MARKS, &out->number, &out->place, &out->sectors, &out->named);
+            SECTORS, c[5], SECTORS, c[6], SECTORS, out->work, MARKS, &out->number, &out->place, &out->sectors, &out->named);
     else if (call == WRITE)
         ways[way].write_table(
             n, in->x, n * n, in->columns[0], n, in->columns[1], n, in->columns[2], n, in->columns[3], n, in->columns[4], n,
-            in->columns[5], n, out->file, FILE_BYTES, &out->number, &out->place, &out->length);
+            in->columns[5], n, in->columns[6], n, out->file, FILE_BYTES, &out->number, &out->place, &out->length);
     else if (call == INVERSE)
         ways[way].inverse(
             n, in->d, n * n, in->budget, out->sheet, n * n, c[0], n, c[1], n, &out->number, &out->place, &out->rounds);
@@ -136,13 +136,15 @@ static void ring(struct input *in, const char *name, uint64_t demand, uint64_t r
 // Every cell named, by rows and then by columns, none of them 0: the longest file that is accepted, as it is written.
 static void full_file(struct input *in)
 {
+    // the column of each kind that has one
+    static const uint8_t column[11] = {0, 0, 0, 0, 1, 2, 3, 4, 0, 6, 5};
     uint8_t *p = in->file;
     *in = (struct input){.name = "full file", .n = SECTORS};
     *p++ = 1, *p++ = SECTORS;
-    for (int kind = 2; kind <= 9; kind++)
+    for (int kind = 2; kind <= 10; kind++)
         for (int i = 0; kind != 8 && i < (kind == 2 ? CELLS : SECTORS); i++) {
             uint32_t amount = (uint32_t)random_below(1000000000) + 1;
-            *(kind == 2 ? &in->x[i] : &in->columns[kind == 9 ? 5 : kind - 3][i]) = amount;
+            *(kind == 2 ? &in->x[i] : &in->columns[column[kind]][i]) = amount;
             *p++ = (uint8_t)kind;
             if (kind == 2)
                 *p++ = (uint8_t)(i / SECTORS + 1);
@@ -216,7 +218,7 @@ static int compare_written(const struct input *in)
         if (k % 4 == 0)
             other.n = 1 + random_below(SECTORS);
         if (k % 2)
-            *(k % 3 ? &other.x[random_below(CELLS)] : &other.columns[random_below(6)][random_below(SECTORS)]) =
+            *(k % 3 ? &other.x[random_below(CELLS)] : &other.columns[random_below(COLUMNS)][random_below(SECTORS)]) =
                 1000000001 + random_below(k % 7 ? 2 : UINT64_MAX / 2);
         seen += compare(WRITE, &other).number != 0;
     }

@@ -39,7 +39,7 @@ extern "C" {
 #endif
 
 /* The version of this header; scripts/version prints and sets it. A change of the first number changes what callers see. */
-#define TAWQESHIM_VERSION "1.1.1"
+#define TAWQESHIM_VERSION "2.0.0"
 
 /* The version of the library that a program runs with. */
 extern const char tawqeshim_version[];
@@ -47,14 +47,14 @@ extern const char tawqeshim_version[];
 /* Sizes of arrays. Those of read_table, of a file and of a page do not depend on n. */
 #define TAWQESHIM_SECTORS 40      /* the most sectors; the cells of each column that read_table fills */
 #define TAWQESHIM_CELLS 1600      /* the cells of x that read_table fills; every matrix fits */
-#define TAWQESHIM_MARKS 46        /* the work words of read_table */
+#define TAWQESHIM_MARKS 47        /* the work words of read_table */
 #define TAWQESHIM_PAGE 2851       /* the bytes of a page's buffer */
-#define TAWQESHIM_FILE 12643      /* the bytes of the longest accepted table file, which write_table is lent */
-#define TAWQESHIM_FILE_READ 12649 /* a longer input is answered as its first 12,649 bytes are: a buffer of these is enough */
+#define TAWQESHIM_FILE 12883      /* the bytes of the longest accepted table file, which write_table is lent */
+#define TAWQESHIM_FILE_READ 12889 /* a longer input is answered as its first 12,889 bytes are: a buffer of these is enough */
 
 /* One, in millionths, and the limits of the questions. */
 #define TAWQESHIM_ONE UINT64_C(1000000)
-#define TAWQESHIM_AMOUNT_LIMIT UINT64_C(1000000000)        /* 3: an amount of a table, a final demand */
+#define TAWQESHIM_AMOUNT_LIMIT UINT64_C(1000000000)        /* 3: an amount of a table, a final demand; 16: exports and adjustment */
 #define TAWQESHIM_SHARE_LIMIT TAWQESHIM_ONE                /* 3: an input coefficient, an import share, a value share */
 #define TAWQESHIM_COLUMN_LIMIT UINT64_C(950000)            /* 7: the column sum of domestic coefficients */
 #define TAWQESHIM_DEMAND_LIMIT UINT64_C(2000000000)        /* 8: a demand for domestic goods */
@@ -75,7 +75,7 @@ enum tawqeshim_number {
     TAWQESHIM_REFUSED_AMOUNT = 3,
     /* every column balances: purchases and value added are production. Place: the first column that does not */
     TAWQESHIM_REFUSED_COLUMN_BALANCE = 4,
-    /* every row balances: sales, final demand and exports are production and imports. Place: the first row that does not */
+    /* every row balances: sales, final demand, exports and adjustment are production and imports. Place: the first row that does not */
     TAWQESHIM_REFUSED_ROW_BALANCE = 5,
     /* a sector's imports are at most its sales and final demand. Place: the first sector over */
     TAWQESHIM_REFUSED_IMPORTS = 6,
@@ -88,7 +88,7 @@ enum tawqeshim_number {
     TAWQESHIM_REFUSED_ROUNDS = 9,
     /* a given production leaves every sector's demand at 0 or above. Place: the first sector short */
     TAWQESHIM_REFUSED_SHORTAGE = 10,
-    /* a record's kind is 1 to 9, and its body is whole. Place of 11 to 14: the offset of the record's kind byte */
+    /* a record's kind is 1 to 10, and its body is whole. Place of 11 to 14: the offset of the record's kind byte */
     TAWQESHIM_REFUSED_RECORD = 11,
     /* the first record is kind 1 with n from 1 to 40, and no later record is kind 1 */
     TAWQESHIM_REFUSED_FIRST_RECORD = 12,
@@ -98,8 +98,10 @@ enum tawqeshim_number {
     TAWQESHIM_REFUSED_SECOND_NAMING = 14,
     /* kind 8 comes, with no byte after it. Place: the file's length if no end came, otherwise the offset after the end */
     TAWQESHIM_REFUSED_END = 15,
+    /* a sector's exports and adjustment together are within 1,000,000,000; asked after 3, before 4. Place: the first sector over */
+    TAWQESHIM_REFUSED_EXPORTS = 16,
     /* the last number */
-    TAWQESHIM_QUESTIONS = 15
+    TAWQESHIM_QUESTIONS = 16
 };
 
 /* The question of a number, as text to show; an empty text for 0 and for a number that no question has. */
@@ -116,20 +118,23 @@ static inline const char *tawqeshim_question(uint8_t number) {
         "is every demand, direct rise or total of a production within its limit?",
         "do the rounds settle within the budget?",
         "does the production leave every sector's demand at 0 or above?",
-        "is the record's kind 1 to 9, and its body whole?",
+        "is the record's kind 1 to 10, and its body whole?",
         "is the first record kind 1 with n from 1 to 40, and no later one?",
         "is every sector byte from 1 to n?",
         "is the cell named for the first time?",
         "does kind 8 come, with no byte after it?",
+        "are a sector's exports and adjustment together within 1,000,000,000?",
     };
     return number <= TAWQESHIM_QUESTIONS ? texts[number] : "";
 }
 
 /*
- * From a table to its sheets. Asks 1, 2, 3, 4, 5, 6, 7.
+ * From a table to its sheets. Asks 1, 2, 3, 16, 4, 5, 6, 7.
  *
- * Takes x, n * n cells: what sector j buys from sector i; and final_demand, exports, imports (as positive numbers), value_added and
- * production, n cells each. Places of 3 run on through these six in this order.
+ * Takes x, n * n cells: what sector j buys from sector i; and final_demand, exports, imports (as positive numbers), value_added,
+ * production and adjustment, n cells each. Places of 3 run on through these seven in this order, so adjustment[0] is place
+ * n * n + 5 * n. The adjustment item, the tax on indirect exports, is an amount of 0 or above. It stands beside exports in the row balance,
+ * is no part of domestic need, and is whole in f. A table without one has n zeros.
  * Gives input coefficients a and domestic coefficients d, n * n cells each; value shares v, import shares m and the demand for domestic
  * goods f, n cells each. Question 7 is about d.
  *
@@ -146,6 +151,7 @@ void tawqeshim_coefficients(
     const uint64_t *imports, size_t imports_length,
     const uint64_t *value_added, size_t value_added_length,
     const uint64_t *production, size_t production_length,
+    const uint64_t *adjustment, size_t adjustment_length,
     uint64_t *a, size_t a_length,
     uint64_t *v, size_t v_length,
     uint64_t *m, size_t m_length,
@@ -257,11 +263,11 @@ void tawqeshim_row(
  * Reads a table file of any bytes. Asks 2, then 11, 12, 13, 14, 15 of each record in turn.
  *
  * Takes the bytes of the file. The lengths that 2 asks for are fixed: TAWQESHIM_CELLS (1,600) for x, TAWQESHIM_SECTORS (40) for each of the
- * six columns, TAWQESHIM_MARKS (46) for marks.
- * Gives x, whose row i starts at cell i * n; final_demand, exports, imports, value_added, production and rises; n in *sectors, and in
- * *named how many cells the file names. Cells that are not named are 0. Amounts are not checked here: tawqeshim_coefficients and
- * tawqeshim_write_table ask 3.
- * A refusal sets every cell of x and of the six columns to 0. Every cell of marks, which are work, is 0 after every call.
+ * seven columns, TAWQESHIM_MARKS (47) for marks.
+ * Gives x, whose row i starts at cell i * n; final_demand, exports, imports, value_added, production, adjustment and rises; n in *sectors,
+ * and in *named how many cells the file names. Cells that are not named are 0: a file without kind 10 has an adjustment of 0. Amounts are
+ * not checked here: tawqeshim_coefficients and tawqeshim_write_table ask 3, and tawqeshim_coefficients 16.
+ * A refusal sets every cell of x and of the seven columns to 0. Every cell of marks, which are work, is 0 after every call.
  */
 void tawqeshim_read_table(
     const uint8_t *file, size_t file_length,
@@ -271,6 +277,7 @@ void tawqeshim_read_table(
     uint64_t *imports, size_t imports_length,
     uint64_t *value_added, size_t value_added_length,
     uint64_t *production, size_t production_length,
+    uint64_t *adjustment, size_t adjustment_length,
     uint64_t *rises, size_t rises_length,
     uint64_t *marks, size_t marks_length,
     uint8_t *number, size_t *place, size_t *sectors, size_t *named);
@@ -278,13 +285,14 @@ void tawqeshim_read_table(
 /*
  * Writes a table as a table file: n, then the cells that are not 0 in ascending kind, row and column, then the end. Asks 1, 2, 3.
  *
- * Takes x, n * n cells; and final_demand, exports, imports, value_added, production and rises, n cells each. Places of 3 run on through
- * these seven in this order, so rises[0] is place n * n + 5 * n. Whether the table balances is not asked here: tawqeshim_coefficients does.
- * Question 2 asks for TAWQESHIM_FILE (12,643) bytes of file, which hold every table file.
+ * Takes x, n * n cells; and final_demand, exports, imports, value_added, production, adjustment and rises, n cells each. Places of 3 run
+ * on through these eight in this order, so adjustment[0] is place n * n + 5 * n and rises[0] is place n * n + 6 * n. In the file the rises
+ * (kind 9) come before the adjustment (kind 10). Question 16 and whether the table balances are not asked here: tawqeshim_coefficients
+ * asks them. Question 2 asks for TAWQESHIM_FILE (12,883) bytes of file, which hold every table file.
  * Gives in *length how many bytes the file has, and in file the file from the start; every byte after it is 0. The table file is the first
  * *length bytes alone: keep and hand on these, since a reader refuses a byte after the end.
  * Reading the file gives n and the cells back. Two written files have the same bytes exactly if n and all cells are the same; that holds of
- * the whole 12,643 bytes too. So a file in another order, or one that names zeros, takes the one written form of its table when it is read
+ * the whole 12,883 bytes too. So a file in another order, or one that names zeros, takes the one written form of its table when it is read
  * and written again.
  * A refusal sets every byte of file to 0, also if it has another length.
  */
@@ -296,6 +304,7 @@ void tawqeshim_write_table(
     const uint64_t *imports, size_t imports_length,
     const uint64_t *value_added, size_t value_added_length,
     const uint64_t *production, size_t production_length,
+    const uint64_t *adjustment, size_t adjustment_length,
     const uint64_t *rises, size_t rises_length,
     uint8_t *file, size_t file_length,
     uint8_t *number, size_t *place, size_t *length);
@@ -317,10 +326,11 @@ void tawqeshim_page(
 /*
  * A table and its sheets by names, for tawqeshim_coefficients, tawqeshim_write_table and tawqeshim_induced without a word about lengths or
  * order. Each pointer is to n cells, or where it says so to n * n; these lengths are handed over as they are, so the arrays must have them.
+ * A table without adjustment has n zeros there: an initializer of five columns leaves NULL.
  */
 struct tawqeshim_table {
     const uint64_t *flows; /* n * n: x */
-    const uint64_t *final_demand, *exports, *imports, *value_added, *production;
+    const uint64_t *final_demand, *exports, *imports, *value_added, *production, *adjustment;
 };
 
 struct tawqeshim_sheets {
@@ -336,6 +346,7 @@ static inline void tawqeshim_table_sheets(
     size_t n, const struct tawqeshim_table *table, const struct tawqeshim_sheets *sheets, uint8_t *number, size_t *place) {
     tawqeshim_coefficients(
         n, table->flows, n * n, table->final_demand, n, table->exports, n, table->imports, n, table->value_added, n, table->production, n,
+        table->adjustment, n,
         sheets->inputs, n * n, sheets->value_shares, n, sheets->import_shares, n, sheets->domestic, n * n, sheets->demand, n,
         number, place);
 }
@@ -345,7 +356,7 @@ static inline void tawqeshim_table_file(
     size_t n, const struct tawqeshim_table *table, const uint64_t *rises, uint8_t *file, uint8_t *number, size_t *place, size_t *length) {
     tawqeshim_write_table(
         n, table->flows, n * n, table->final_demand, n, table->exports, n, table->imports, n, table->value_added, n, table->production, n,
-        rises, n, file, TAWQESHIM_FILE, number, place, length);
+        table->adjustment, n, rises, n, file, TAWQESHIM_FILE, number, place, length);
 }
 
 /* tawqeshim_induced: what a production induces by the inputs, import_shares and value_shares of sheets, which are only read. */

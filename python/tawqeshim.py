@@ -68,7 +68,7 @@ from numbers import Integral
 from pathlib import Path
 from typing import Any, NamedTuple, NoReturn, Optional, Protocol, Union
 
-__version__ = "1.1.1"
+__version__ = "2.0.0"
 __all__ = ["QUESTIONS", "Refused", "Coefficients", "Production", "Prices", "Induced", "Inverse", "Table", "coefficients", "production",
            "price", "implied_demand", "induced", "inverse", "row", "read_table", "write_table", "page"]
 
@@ -83,11 +83,12 @@ QUESTIONS: dict[int, str] = {
     8: "is every demand, direct rise or total of a production within its limit?",
     9: "do the rounds settle within the budget?",
     10: "does the production leave every sector's demand at 0 or above?",
-    11: "is the record's kind 1 to 9, and its body whole?",
+    11: "is the record's kind 1 to 10, and its body whole?",
     12: "is the first record kind 1 with n from 1 to 40, and no later one?",
     13: "is every sector byte from 1 to n?",
     14: "is the cell named for the first time?",
     15: "does kind 8 come, with no byte after it?",
+    16: "are a sector's exports and adjustment together within 1,000,000,000?",
 }
 
 
@@ -145,7 +146,7 @@ class Inverse(NamedTuple):
 
 
 class Table(NamedTuple):
-    """What a table file holds: a table with its rises, and how many cells the file names. `Table.of` makes one of lists."""
+    """What a table file holds: a table with its adjustment and rises, and how many cells the file names. `Table.of` makes one of lists."""
 
     sectors: int
     named: int
@@ -155,20 +156,24 @@ class Table(NamedTuple):
     imports: list[int]
     value_added: list[int]
     production: list[int]
+    adjustment: list[int]
     rises: list[int]
 
     @classmethod
     def of(cls, flows: "Matrix", final_demand: "Column", exports: "Column", imports: "Column", value_added: "Column",
-           production: "Column", rises: "Optional[Column]" = None, *, n: Optional[int] = None) -> "Table":
-        """A table of lists, arrays or frames, each cell checked; without rises these are 0. `named` counts the cells that are not 0.
+           production: "Column", adjustment: "Optional[Column]" = None, rises: "Optional[Column]" = None, *,
+           n: Optional[int] = None) -> "Table":
+        """A table of lists, arrays or frames, each cell checked. The adjustment and the rises are n zeros where they are left out. `named`
+        counts the cells that are not 0.
 
-        >>> Table.of([[1]], [4], [0], [0], [4], [5])
-        Table(sectors=1, named=4, flows=[1], final_demand=[4], exports=[0], imports=[0], value_added=[4], production=[5], rises=[0])
+        >>> table = Table.of([[1]], [4], [0], [0], [5], [6], [1])
+        >>> table.adjustment, table.rises, table.named
+        ([1], [0], 5)
         """
         columns = [_column("final_demand", final_demand), _column("exports", exports), _column("imports", imports),
                    _column("value_added", value_added), _column("production", production)]
         n = _size(n, columns[0])
-        cells = [_matrix("flows", flows), *columns, _new_column(n) if rises is None else _column("rises", rises)]
+        cells = [_matrix("flows", flows), *columns, _column_or_zeros("adjustment", adjustment, n), _column_or_zeros("rises", rises, n)]
         return cls(n, sum(amount != 0 for amounts in cells for amount in amounts), *(amounts[:] for amounts in cells))
 
 
@@ -183,7 +188,8 @@ Column = Union[Sequence[float], SupportsArray]
 Matrix = Union[Column, Sequence[Column]]
 
 _SECTORS = 40
-_FILE = 12643
+_MARKS = 47
+_FILE = 12883
 _PAGE = 2851
 _LARGEST = 2**64 - 1
 _EXACT_FLOATS = 2.0**53
@@ -264,6 +270,11 @@ class _Cells(NamedTuple):
 def _column(name: str, cells: "Column") -> ctypes.Array:
     """A column for the library."""
     return _copied(_taken(name, cells, 1).packed)
+
+
+def _column_or_zeros(name: str, cells: "Optional[Column]", n: int) -> ctypes.Array:
+    """A column for the library; n zeros where it is left out."""
+    return _new_column(n) if cells is None else _column(name, cells)
 
 
 def _matrix(name: str, cells: "Matrix") -> ctypes.Array:
@@ -445,11 +456,13 @@ def _ask(name: str, *words: Any, counts: Sequence[Any] = ()) -> None:
 
 
 def coefficients(flows: "Matrix", final_demand: "Column", exports: "Column", imports: "Column", value_added: "Column",
-                 production: "Column", *, n: Optional[int] = None) -> Coefficients:
-    """From a table to its sheets. Asks 1 to 7.
+                 production: "Column", adjustment: "Optional[Column]" = None, *, n: Optional[int] = None) -> Coefficients:
+    """From a table to its sheets. Asks 1, 2, 3, 16, 4, 5, 6, 7, in this order.
 
-    `flows` is x: in row i and column j, what sector j buys from sector i. Imports are positive numbers. Each column of flows and value
-    added makes up production, and each row of flows, final demand and exports makes up production and imports, to the unit.
+    `flows` is x: in row i and column j, what sector j buys from sector i. Imports are positive numbers. `adjustment` is the adjustment
+    item, the tax on indirect exports; left out, it is n zeros. Each column of flows and value added makes up production, and each row of
+    flows, final demand, exports and adjustment makes up production and imports, to the unit. As exports, the adjustment is no part of the
+    need that imports are divided by, and is whole in the demand for domestic goods.
 
     >>> sheets = coefficients([[100, 400], [300, 600]], [500, 900], [250, 560], [250, 360], [600, 1000], [1000, 2000])
     >>> sheets.imports
@@ -459,10 +472,17 @@ def coefficients(flows: "Matrix", final_demand: "Column", exports: "Column", imp
     >>> coefficients([[100, 400], [300, 600]], [500, 900], [250, 560], [250, 360], [600, 1000], [1000, 2001])
     Traceback (most recent call last):
     tawqeshim.Refused: question 4, place 1: does every column balance?
+
+    The same table, with 50 of the first sector's exports as its adjustment, has the same sheets:
+
+    >>> adjusted = coefficients([[100, 400], [300, 600]], [500, 900], [200, 560], [250, 360], [600, 1000], [1000, 2000], [50, 0])
+    >>> adjusted == sheets
+    True
     """
     columns = [_column("final_demand", final_demand), _column("exports", exports), _column("imports", imports),
                _column("value_added", value_added), _column("production", production)]
     n = _size(n, columns[0])
+    columns.append(_column_or_zeros("adjustment", adjustment, n))
     a, d = _new_matrix(n), _new_matrix(n)
     v, m, f = _new_column(n), _new_column(n), _new_column(n)
     _ask("coefficients", n, _matrix("flows", flows), *columns, a, v, m, d, f)
@@ -589,7 +609,8 @@ def _own_cells(sheet: Any) -> Optional[memoryview]:
 
 
 def read_table(file: bytes) -> Table:
-    """Reads the bytes of a table file. Asks 11 to 15 of each record in turn.
+    """Reads the bytes of a table file. Asks 11 to 15 of each record in turn. Cells that the file does not name are 0, so a file without
+    kind 10 has an adjustment of 0.
 
     >>> read_table(bytes([1, 2, 3, 1, 0, 0, 1, 244, 8]))[:4]
     (2, 1, [0, 0, 0, 0], [500, 0])
@@ -597,8 +618,8 @@ def read_table(file: bytes) -> Table:
     Traceback (most recent call last):
     tawqeshim.Refused: question 15, place 0: does kind 8 come, with no byte after it?
     """
-    x, columns = _new_matrix(_SECTORS), [_new_column(_SECTORS) for _ in range(6)]
-    marks = (ctypes.c_uint64 * 46)()
+    x, columns = _new_matrix(_SECTORS), [_new_column(_SECTORS) for _ in range(7)]
+    marks = (ctypes.c_uint64 * _MARKS)()
     sectors, named = ctypes.c_size_t(), ctypes.c_size_t()
     _ask("read_table", _file(file), x, *columns, marks, counts=[sectors, named])
     n = sectors.value
@@ -606,10 +627,11 @@ def read_table(file: bytes) -> Table:
 
 
 def write_table(table: Table) -> bytes:
-    """The bytes of a table's file. Asks 1, 2, 3; the rises come after production in the places of 3.
+    """The bytes of a table's file. Asks 1, 2, 3; in the places of 3 the adjustment comes after production, and the rises last.
 
     The cells that are not 0 stand in one order. So two tables have the same bytes exactly if n and all cells are the same, and reading the
-    bytes gives the table back. `named` is not looked at. Whether the table balances is not asked: `coefficients` and `page` do.
+    bytes gives the table back. `named` is not looked at. Question 16 and whether the table balances are not asked: `coefficients` and
+    `page` ask them.
 
     >>> table = Table.of([[100, 400], [300, 600]], [500, 900], [250, 560], [250, 360], [600, 1000], [1000, 2000])
     >>> file = write_table(table)
@@ -619,7 +641,7 @@ def write_table(table: Table) -> bytes:
     True
     >>> write_table(table._replace(rises=[0, 1_000_000_001]))
     Traceback (most recent call last):
-    tawqeshim.Refused: question 3, place 15: is every amount within 1,000,000,000 and every share within one?
+    tawqeshim.Refused: question 3, place 17: is every amount within 1,000,000,000 and every share within one?
     """
     if not isinstance(table, Table):
         raise TypeError(f"table is a {type(table).__name__}, not a Table: Table.of makes one of lists")

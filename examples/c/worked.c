@@ -22,8 +22,8 @@ static void accept(uint8_t number, size_t place) {
 int main(void) {
     const uint64_t flows[N * N] = {100, 400, 300, 600};
     const uint64_t final_demand[N] = {500, 900}, exports[N] = {250, 560}, imports[N] = {250, 360};
-    const uint64_t value_added[N] = {600, 1000}, production[N] = {1000, 2000};
-    const struct tawqeshim_table table = {flows, final_demand, exports, imports, value_added, production};
+    const uint64_t value_added[N] = {600, 1000}, production[N] = {1000, 2000}, adjustment[N] = {0, 0};
+    const struct tawqeshim_table table = {flows, final_demand, exports, imports, value_added, production, adjustment};
     uint8_t number;
     size_t place;
 

@@ -12,6 +12,7 @@ extern "C" {
         n: usize, x: *const u64, x_length: usize, final_demand: *const u64, final_demand_length: usize,
         exports: *const u64, exports_length: usize, imports: *const u64, imports_length: usize,
         value_added: *const u64, value_added_length: usize, production: *const u64, production_length: usize,
+        adjustment: *const u64, adjustment_length: usize,
         a: *mut u64, a_length: usize, v: *mut u64, v_length: usize, m: *mut u64, m_length: usize,
         d: *mut u64, d_length: usize, f: *mut u64, f_length: usize, number: *mut u8, place: *mut usize,
     );
@@ -44,7 +45,7 @@ fn accept(number: u8, place: usize) {
 fn main() {
     let x: [u64; N * N] = [100, 400, 300, 600];
     let (final_demand, exports, imports): ([u64; N], [u64; N], [u64; N]) = ([500, 900], [250, 560], [250, 360]);
-    let (value_added, production): ([u64; N], [u64; N]) = ([600, 1000], [1000, 2000]);
+    let (value_added, production, adjustment): ([u64; N], [u64; N], [u64; N]) = ([600, 1000], [1000, 2000], [0, 0]);
     let (mut number, mut place, mut rounds) = (0, 0, 0);
 
     let (mut a, mut d) = ([0; N * N], [0; N * N]);
@@ -54,7 +55,7 @@ fn main() {
     unsafe {
         tawqeshim_coefficients(
             N, x.as_ptr(), N * N, final_demand.as_ptr(), N, exports.as_ptr(), N, imports.as_ptr(), N,
-            value_added.as_ptr(), N, production.as_ptr(), N, a.as_mut_ptr(), N * N, v.as_mut_ptr(), N,
+            value_added.as_ptr(), N, production.as_ptr(), N, adjustment.as_ptr(), N, a.as_mut_ptr(), N * N, v.as_mut_ptr(), N,
             m.as_mut_ptr(), N, d.as_mut_ptr(), N * N, f.as_mut_ptr(), N, &mut number, &mut place,
         );
     }

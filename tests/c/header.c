@@ -37,9 +37,10 @@ static void questions(void) {
         for (int other = 1; other < k; other++)
             expect(strcmp(text, tawqeshim_question((uint8_t)other)) != 0, "two questions have one text");
     }
-    expect(TAWQESHIM_REFUSED_END == TAWQESHIM_QUESTIONS, "the last question is not the last number");
+    expect(TAWQESHIM_REFUSED_EXPORTS == TAWQESHIM_QUESTIONS, "the last question is not the last number");
     expect(strcmp(tawqeshim_question(TAWQESHIM_REFUSED_ROUNDS), "do the rounds settle within the budget?") == 0, "the text of question 9");
     expect(strcmp(tawqeshim_question(TAWQESHIM_REFUSED_END), "does kind 8 come, with no byte after it?") == 0, "the text of question 15");
+    expect(strstr(tawqeshim_question(TAWQESHIM_REFUSED_EXPORTS), "exports and adjustment") != NULL, "the text of question 16");
 }
 
 /* One sector, whose coefficient, demand and rise may be at a limit or one over it. */
@@ -63,7 +64,38 @@ static void induce(uint64_t share, uint64_t final_demand) {
     tawqeshim_induced(1, &a, 1, &share, 1, &v, 1, &final_demand, 1, &production, 1, &value, 1, &imports, 1, &number, &place);
 }
 
+/* One sector with exports and an adjustment alone: its a, v, m, d and f. What production leaves of the two is imported. */
+static uint64_t sheet_cells[5];
+static void adjust(uint64_t exports, uint64_t adjustment) {
+    uint64_t x = 0, final_demand = 0, imports = 0, production = exports + adjustment;
+    if (production > TAWQESHIM_AMOUNT_LIMIT) {
+        imports = production - TAWQESHIM_AMOUNT_LIMIT;
+        production = TAWQESHIM_AMOUNT_LIMIT;
+    }
+    uint64_t *c = sheet_cells;
+    c[0] = c[1] = c[2] = c[3] = c[4] = 7;
+    tawqeshim_coefficients(1, &x, 1, &final_demand, 1, &exports, 1, &imports, 1, &production, 1, &production, 1, &adjustment, 1,
+                           &c[0], 1, &c[1], 1, &c[2], 1, &c[3], 1, &c[4], 1, &number, &place);
+}
+
+/* Are these the value share and the demand, and is the rest 0? */
+static int sheets_are(uint64_t value_share, uint64_t demand) {
+    const uint64_t *c = sheet_cells;
+    return c[0] == 0 && c[1] == value_share && c[2] == 0 && c[3] == 0 && c[4] == demand;
+}
+
 static void limits(void) {
+    const uint64_t limit = TAWQESHIM_AMOUNT_LIMIT;
+    adjust(limit - 1, 1);
+    answers(TAWQESHIM_ACCEPTED, 0, "exports and adjustment at their limit");
+    expect(sheets_are(TAWQESHIM_ONE, limit), "the adjustment is not whole in the demand");
+    adjust(0, limit);
+    answers(TAWQESHIM_ACCEPTED, 0, "an adjustment at its limit");
+    adjust(limit, 1);
+    answers(TAWQESHIM_REFUSED_EXPORTS, 0, "exports and adjustment over their limit");
+    expect(sheets_are(0, 0), "a sheet that is refused with 16 is not 0");
+    adjust(0, limit + 1);
+    answers(TAWQESHIM_REFUSED_AMOUNT, 6, "an adjustment over its limit");
     produce(TAWQESHIM_COLUMN_LIMIT, 1);
     answers(TAWQESHIM_ACCEPTED, 0, "a column sum at its limit");
     produce(TAWQESHIM_COLUMN_LIMIT + 1, 1);
@@ -89,7 +121,7 @@ static void limits(void) {
 }
 
 static uint64_t sheet[TAWQESHIM_CELLS + 1], inverse[TAWQESHIM_CELLS + 1];
-static uint64_t columns[6][TAWQESHIM_SECTORS + 1], marks[TAWQESHIM_MARKS + 1];
+static uint64_t columns[7][TAWQESHIM_SECTORS + 1], marks[TAWQESHIM_MARKS + 1];
 static uint8_t file[TAWQESHIM_FILE_READ + 1], archive[TAWQESHIM_FILE + 2], page[TAWQESHIM_PAGE + 1];
 static size_t count;
 
@@ -102,12 +134,12 @@ static void invert(size_t n) {
 static void read_file(size_t length, size_t cells, size_t sectors, size_t words) {
     size_t n, named;
     tawqeshim_read_table(file, length, sheet, cells, columns[0], sectors, columns[1], sectors, columns[2], sectors, columns[3], sectors,
-                         columns[4], sectors, columns[5], sectors, marks, words, &number, &place, &n, &named);
+                         columns[4], sectors, columns[5], sectors, columns[6], sectors, marks, words, &number, &place, &n, &named);
 }
 
 /* The longest file: every cell of 40 sectors, all 0. */
 static size_t longest_file(void) {
-    static const uint8_t kinds[6] = {3, 4, 5, 6, 7, 9};
+    static const uint8_t kinds[7] = {3, 4, 5, 6, 7, 9, 10};
     size_t at = 0;
     file[at++] = 1;
     file[at++] = TAWQESHIM_SECTORS;
@@ -117,7 +149,7 @@ static size_t longest_file(void) {
             file[at + 1] = i;
             file[at + 2] = j;
         }
-    for (size_t k = 0; k < 6; k++)
+    for (size_t k = 0; k < 7; k++)
         for (uint8_t i = 1; i <= TAWQESHIM_SECTORS; i++, at += 6) {
             file[at] = kinds[k];
             file[at + 1] = i;
@@ -126,19 +158,19 @@ static size_t longest_file(void) {
     return at;
 }
 
-/* A table with this amount in every cell, and this one in the last rise, into so many bytes. */
+/* A table with this amount in every cell, and this one in the last rise, into so many bytes; the rises are the last column. */
 static void write_file(size_t n, uint64_t amount, uint64_t last, size_t length) {
     size_t cells = n * n <= TAWQESHIM_CELLS ? n * n : 0;
     for (size_t k = 0; k < cells; k++)
         sheet[k] = amount;
-    for (size_t k = 0; k < 6; k++)
+    for (size_t k = 0; k < 7; k++)
         for (size_t i = 0; i < n; i++)
             columns[k][i] = amount;
-    columns[5][n - 1] = last;
+    columns[6][n - 1] = last;
     memset(archive, 7, sizeof archive);
     count = 7;
     tawqeshim_write_table(n, sheet, cells, columns[0], n, columns[1], n, columns[2], n, columns[3], n, columns[4], n, columns[5], n,
-                          archive, length, &number, &place, &count);
+                          columns[6], n, archive, length, &number, &place, &count);
 }
 
 /* A refused file: nothing but zeros, as far as it was lent. */
@@ -151,18 +183,20 @@ static int is_refused(size_t length) {
 
 static void files(void) {
     const uint64_t limit = TAWQESHIM_AMOUNT_LIMIT;
-    static const uint8_t first[9] = {1, 40, 2, 1, 1, 0x3b, 0x9a, 0xca, 0x00}, end[7] = {9, 40, 0, 0, 0, 1, 8};
+    static const uint8_t first[9] = {1, 40, 2, 1, 1, 0x3b, 0x9a, 0xca, 0x00}, rise[6] = {9, 40, 0, 0, 0, 1};
+    static const uint8_t end[7] = {10, 40, 0x3b, 0x9a, 0xca, 0x00, 8};
     write_file(TAWQESHIM_SECTORS, limit, 1, TAWQESHIM_FILE);
     answers(TAWQESHIM_ACCEPTED, 0, "a table of the most sectors, with amounts at their limit");
     expect(count == TAWQESHIM_FILE, "a table without a zero is not the longest file");
     expect(memcmp(archive, first, 9) == 0 && memcmp(archive + count - 7, end, 7) == 0, "the longest file's first cell or its end");
+    expect(memcmp(archive + count - 1 - 41 * 6, rise, 6) == 0, "the last rise is not before the adjustment");
     expect(archive[TAWQESHIM_FILE] == 7, "a byte beyond a file changed");
     write_file(1, 0, 0, TAWQESHIM_FILE);
     answers(TAWQESHIM_ACCEPTED, 0, "a table of zeros");
     expect(count == 3 && memcmp(archive, "\1\1\10", 4) == 0 && archive[TAWQESHIM_FILE - 1] == 0, "the file of zeros");
 
     write_file(TAWQESHIM_SECTORS, limit, limit + 1, TAWQESHIM_FILE);
-    answers(TAWQESHIM_REFUSED_AMOUNT, 40 * 40 + 5 * 40 + 39, "a rise over its limit");
+    answers(TAWQESHIM_REFUSED_AMOUNT, 40 * 40 + 6 * 40 + 39, "a rise over its limit");
     expect(is_refused(TAWQESHIM_FILE), "a file that is refused with 3 is not 0");
     write_file(TAWQESHIM_SECTORS + 1, 0, 0, TAWQESHIM_FILE);
     answers(TAWQESHIM_REFUSED_SIZE, 0, "a table of a sector more than the most");
@@ -216,8 +250,8 @@ static void sizes(void) {
 /* The worked table by names gives what it gives by order. */
 static void by_names(void) {
     const uint64_t flows[4] = {100, 400, 300, 600}, settled[2] = {999, 1999};
-    const uint64_t columns_of[5][2] = {{500, 900}, {250, 560}, {250, 360}, {600, 1000}, {1000, 2000}};
-    const struct tawqeshim_table table = {flows, columns_of[0], columns_of[1], columns_of[2], columns_of[3], columns_of[4]};
+    const uint64_t columns_of[6][2] = {{500, 900}, {250, 560}, {250, 360}, {600, 1000}, {1000, 2000}, {0, 0}};
+    struct tawqeshim_table table = {flows, columns_of[0], columns_of[1], columns_of[2], columns_of[3], columns_of[4], columns_of[5]};
     uint64_t a[4], v[2], m[2], d[4], f[2], value[2], imports[2];
     const struct tawqeshim_sheets sheets = {a, v, m, d, f};
     tawqeshim_table_sheets(2, &table, &sheets, &number, &place);
@@ -234,6 +268,19 @@ static void by_names(void) {
     expect(count == 91 && archive[90] == 8 && archive[91] == 0, "the worked file's length");
     tawqeshim_page(archive, count, page, TAWQESHIM_PAGE, &number, &place, &count);
     expect(count == strlen(printed) && memcmp(page, printed, count) == 0, "the page of the worked table's file");
+
+    /* With an adjustment, by which imports are higher. */
+    const uint64_t adjustment[2] = {50, 90}, more_imports[2] = {300, 450};
+    static const uint8_t end[13] = {10, 1, 0, 0, 0, 50, 10, 2, 0, 0, 0, 90, 8};
+    table.adjustment = adjustment;
+    tawqeshim_table_sheets(2, &table, &sheets, &number, &place);
+    answers(TAWQESHIM_REFUSED_ROW_BALANCE, 0, "an adjustment without imports");
+    table.imports = more_imports;
+    tawqeshim_table_sheets(2, &table, &sheets, &number, &place);
+    answers(TAWQESHIM_ACCEPTED, 0, "the table with an adjustment");
+    expect(m[0] == 300000 && m[1] == 250000 && f[0] == 650 && f[1] == 1325, "the sheets of the table with an adjustment");
+    tawqeshim_table_file(2, &table, rises, archive, &number, &place, &count);
+    expect(count == 103 && memcmp(archive + 90, end, 13) == 0, "the file of the table with an adjustment");
 
     size_t start, length;
     tawqeshim_row(2, flows, 4, 1, &start, &length);

@@ -54,7 +54,7 @@ impl Call {
     /// cannot show 1 and 8, and 9 only if some table needs over 1,400 rounds.
     pub fn numbers(self) -> &'static [u8] {
         match self {
-            Call::Coefficients => &[0, 1, 2, 3, 4, 5, 6, 7],
+            Call::Coefficients => &[0, 1, 2, 3, 4, 5, 6, 7, 16],
             Call::Production | Call::Price => &[0, 1, 2, 7, 8, 9],
             Call::ImpliedDemand => &[0, 1, 2, 7, 8, 10],
             Call::Induced => &[0, 1, 2, 3, 8],
@@ -62,17 +62,17 @@ impl Call {
             Call::Row => &[0, 1],
             Call::ReadTable => &[0, 2, 11, 12, 13, 14, 15],
             Call::WriteTable => &[0, 1, 2, 3],
-            Call::Page => &[0, 2, 3, 4, 5, 6, 7, 11, 12, 13, 14, 15],
+            Call::Page => &[0, 2, 3, 4, 5, 6, 7, 11, 12, 13, 14, 15, 16],
         }
     }
 
     /// The exact lengths of the input slices.
     pub fn given_lengths(self, n: usize) -> Vec<usize> {
         match self {
-            Call::Coefficients => vec![n * n, n, n, n, n, n],
+            Call::Coefficients => vec![n * n, n, n, n, n, n, n],
             Call::Production | Call::Price | Call::ImpliedDemand => vec![n * n, n],
             Call::Induced => vec![n * n, n, n, n, n],
-            Call::WriteTable => vec![n * n, n, n, n, n, n, n],
+            Call::WriteTable => vec![n * n, n, n, n, n, n, n, n],
             Call::Inverse | Call::Row => vec![n * n],
             Call::ReadTable | Call::Page => vec![],
         }
@@ -159,7 +159,7 @@ pub fn by_reference(case: &Case) -> Outcome {
     let Case { call, n, budget, given, lent, .. } = case;
     let answer = match call {
         Call::Coefficients => reference::coefficients(
-            *n, &given[0], &given[1], &given[2], &given[3], &given[4], &given[5], lent,
+            *n, &given[0], &given[1], &given[2], &given[3], &given[4], &given[5], &given[6], lent,
         ),
         Call::Production => reference::production(*n, &given[0], &given[1], *budget, lent),
         Call::Price => reference::price(*n, &given[0], &given[1], *budget, lent),
@@ -228,6 +228,7 @@ extern "C" {
         imports: *const u64, imports_length: usize,
         value_added: *const u64, value_added_length: usize,
         production: *const u64, production_length: usize,
+        adjustment: *const u64, adjustment_length: usize,
         a: *mut u64, a_length: usize,
         v: *mut u64, v_length: usize,
         m: *mut u64, m_length: usize,
@@ -304,6 +305,7 @@ extern "C" {
         imports: *mut u64, imports_length: usize,
         value_added: *mut u64, value_added_length: usize,
         production: *mut u64, production_length: usize,
+        adjustment: *mut u64, adjustment_length: usize,
         rises: *mut u64, rises_length: usize,
         marks: *mut u64, marks_length: usize,
         number: *mut u8,
@@ -319,6 +321,7 @@ extern "C" {
         imports: *const u64, imports_length: usize,
         value_added: *const u64, value_added_length: usize,
         production: *const u64, production_length: usize,
+        adjustment: *const u64, adjustment_length: usize,
         rises: *const u64, rises_length: usize,
         file: *mut u8, file_length: usize,
         number: *mut u8,
@@ -361,7 +364,7 @@ pub fn by_library(case: &Case) -> Result<Outcome, &'static str> {
         match case.call {
             Call::Coefficients => {
                 tawqeshim_coefficients(
-                    n, g(0), gl(0), g(1), gl(1), g(2), gl(2), g(3), gl(3), g(4), gl(4), g(5), gl(5),
+                    n, g(0), gl(0), g(1), gl(1), g(2), gl(2), g(3), gl(3), g(4), gl(4), g(5), gl(5), g(6), gl(6),
                     l(0), ll(0), l(1), ll(1), l(2), ll(2), l(3), ll(3), l(4), ll(4),
                     &mut number, &mut place,
                 );
@@ -411,7 +414,7 @@ pub fn by_library(case: &Case) -> Result<Outcome, &'static str> {
                 tawqeshim_read_table(
                     file.as_ptr(), file.len(),
                     l(0), ll(0), l(1), ll(1), l(2), ll(2), l(3), ll(3),
-                    l(4), ll(4), l(5), ll(5), l(6), ll(6), l(7), ll(7),
+                    l(4), ll(4), l(5), ll(5), l(6), ll(6), l(7), ll(7), l(8), ll(8),
                     &mut number, &mut place, sectors, named,
                 );
             }
@@ -448,7 +451,7 @@ fn bytes_by_library(case: &Case) -> Result<Outcome, &'static str> {
         if case.call == Call::WriteTable {
             tawqeshim_write_table(
                 case.n, g(0), gl(0), g(1), gl(1), g(2), gl(2), g(3), gl(3), g(4), gl(4), g(5), gl(5), g(6), gl(6),
-                start, length, &mut number, &mut place, &mut written,
+                g(7), gl(7), start, length, &mut number, &mut place, &mut written,
             );
         } else {
             tawqeshim_page(file.as_ptr(), file.len(), start, length, &mut number, &mut place, &mut written);

@@ -385,13 +385,18 @@ fn row_case(rng: &mut Rng) -> Case {
 // Tables
 // ---------------------------------------------------------------------------------------------
 
-/// A table: x, F, E, M, V, X, in the interface's order.
+/// A table: x, F, E, M, V, X, G, in the interface's order.
 type Table = Vec<Vec<u64>>;
 const FINAL: usize = 1;
 const EXPORTS: usize = 2;
 const IMPORTS: usize = 3;
 const VALUE: usize = 4;
 const OUTPUT: usize = 5;
+const ADJUSTMENT: usize = 6;
+
+fn zero_table(n: usize) -> Table {
+    Call::Coefficients.given_lengths(n).iter().map(|length| vec![0; *length]).collect()
+}
 
 fn row_sum(table: &Table, n: usize, i: usize) -> u64 {
     table[0][i * n..(i + 1) * n].iter().sum()
@@ -401,16 +406,21 @@ fn column_sum(table: &Table, n: usize, j: usize) -> u64 {
     (0..n).map(|i| table[0][i * n + j]).sum()
 }
 
-/// Chooses X, V and M so that x, F and E balance; raises F where they cannot.
+/// E + G of a sector.
+fn outflow(table: &Table, i: usize) -> u64 {
+    table[EXPORTS][i] + table[ADJUSTMENT][i]
+}
+
+/// Chooses X, V and M so that x, F, E and G balance; raises F where they cannot.
 fn balance(rng: &mut Rng, n: usize, table: &mut Table, cap: u64) {
     for i in 0..n {
         let (row, column) = (row_sum(table, n, i), column_sum(table, n, i));
-        let exports = table[EXPORTS][i];
-        let short = column.saturating_sub(row + exports + table[FINAL][i]);
+        let outflow = outflow(table, i);
+        let short = column.saturating_sub(row + outflow + table[FINAL][i]);
         table[FINAL][i] += short;
-        let used = row + exports + table[FINAL][i];
-        // Imports within domestic need: X at least E. Imports within the cap: X at least used - cap.
-        let least = exports.max(column).max(used.saturating_sub(cap));
+        let used = row + outflow + table[FINAL][i];
+        // Imports within domestic need: X at least E + G. Imports within the cap: X at least used - cap.
+        let least = outflow.max(column).max(used.saturating_sub(cap));
         let most = used.min(cap).max(least);
         let output = match rng.below(8) {
             0 => least,
@@ -425,9 +435,9 @@ fn balance(rng: &mut Rng, n: usize, table: &mut Table, cap: u64) {
     }
 }
 
-/// A table that balances: x, F and E are drawn, the rest is chosen.
+/// A table that balances: x, F, E and G are drawn, the rest is chosen. Half of the tables have no G.
 fn drawn_table(rng: &mut Rng, n: usize) -> Table {
-    let mut table = vec![vec![0; n * n], vec![0; n], vec![0; n], vec![0; n], vec![0; n], vec![0; n]];
+    let mut table = zero_table(n);
     let scale = match rng.below(6) {
         0 => 3,
         1 => 1_000,
@@ -443,9 +453,11 @@ fn drawn_table(rng: &mut Rng, n: usize) -> Table {
     }
     let (inside, outside) = (rng.upto(2 * scale * n as u64), rng.upto(scale));
     let (inside, outside) = (inside.min(AMOUNT / 3), outside.min(AMOUNT / 3));
+    let adjusted = rng.of(&[0, 0, 1, 2]);
     for i in 0..n {
         table[FINAL][i] = rng.upto(inside);
         table[EXPORTS][i] = if rng.chance(1, 2) { rng.upto(outside) } else { 0 };
+        table[ADJUSTMENT][i] = if rng.chance(adjusted, 2) { rng.upto(outside) } else { 0 };
     }
     // A sector that nobody sells to or buys from.
     if rng.chance(1, 8) {
@@ -456,6 +468,7 @@ fn drawn_table(rng: &mut Rng, n: usize) -> Table {
                 table[0][k * n + other] = 0;
                 table[FINAL][k] = 0;
                 table[EXPORTS][k] = 0;
+                table[ADJUSTMENT][k] = 0;
             }
             if column {
                 table[0][other * n + k] = 0;
@@ -468,7 +481,7 @@ fn drawn_table(rng: &mut Rng, n: usize) -> Table {
 
 /// A table without imports whose column sums are 950,000, or one column one over.
 fn pressed_table(rng: &mut Rng, n: usize) -> Table {
-    let mut table = vec![vec![0; n * n], vec![0; n], vec![0; n], vec![0; n], vec![0; n], vec![0; n]];
+    let mut table = zero_table(n);
     let unit = rng.between(1, 1_000);
     for weight in split(rng, COLUMN, 3) {
         for (i, j) in permutation(rng, n).into_iter().enumerate() {
@@ -482,42 +495,52 @@ fn pressed_table(rng: &mut Rng, n: usize) -> Table {
     for i in 0..n {
         let rest = ONE * unit - row_sum(&table, n, i);
         table[EXPORTS][i] = if rng.chance(1, 2) { rng.upto(rest) } else { 0 };
-        table[FINAL][i] = rest - table[EXPORTS][i];
+        table[ADJUSTMENT][i] = if rng.chance(1, 4) { rng.upto(rest - table[EXPORTS][i]) } else { 0 };
+        table[FINAL][i] = rest - outflow(&table, i);
         table[VALUE][i] = ONE * unit - column_sum(&table, n, i);
         table[OUTPUT][i] = ONE * unit;
     }
     table
 }
 
-/// A balanced table with one cell at 1,000,000,000, or at one over.
-fn capped_table(rng: &mut Rng, n: usize) -> Table {
-    let mut table = vec![vec![0; n * n], vec![0; n], vec![0; n], vec![0; n], vec![0; n], vec![0; n]];
+/// A table with small cells of x, F, E and now and then of G.
+fn small_table(rng: &mut Rng, n: usize) -> Table {
+    let mut table = zero_table(n);
     let small = rng.upto(1_000);
-    for slice in [0, FINAL, EXPORTS] {
-        for cell in &mut table[slice] {
+    let slices = if rng.chance(1, 2) { &[0, FINAL, EXPORTS][..] } else { &[0, FINAL, EXPORTS, ADJUSTMENT] };
+    for slice in slices {
+        for cell in &mut table[*slice] {
             *cell = rng.upto(small);
         }
     }
+    table
+}
+
+/// A balanced table with one cell at 1,000,000,000, or at one over.
+fn capped_table(rng: &mut Rng, n: usize) -> Table {
+    let mut table = small_table(rng, n);
     let cap = AMOUNT + rng.upto(1);
     let k = rng.spot(n);
     let clear_column = |table: &mut Table, j: usize| {
         (0..n).for_each(|i| table[0][i * n + j] = 0);
     };
-    match rng.below(6) {
+    match rng.below(7) {
         // x: the whole of the column; the row is imported as far as need be.
         0 => {
             let i = rng.spot(n);
             clear_column(&mut table, k);
             table[0][i * n + k] = cap;
             if i != k {
-                table[FINAL][k] = cap - row_sum(&table, n, k) - table[EXPORTS][k];
+                table[FINAL][k] = cap - row_sum(&table, n, k) - outflow(&table, k);
             }
             for j in 0..n {
                 if j != k {
                     table[0][i * n + j] = 0;
                 }
             }
-            table[FINAL][i] = table[FINAL][i].min(if i == k { 0 } else { small });
+            if i == k {
+                table[FINAL][i] = 0;
+            }
             balance(rng, n, &mut table, cap);
         }
         FINAL => {
@@ -525,29 +548,33 @@ fn capped_table(rng: &mut Rng, n: usize) -> Table {
             balance(rng, n, &mut table, cap);
         }
         EXPORTS => {
-            table[EXPORTS][k] = cap;
+            (table[EXPORTS][k], table[ADJUSTMENT][k]) = (cap, 0);
+            balance(rng, n, &mut table, cap);
+        }
+        ADJUSTMENT => {
+            (table[EXPORTS][k], table[ADJUSTMENT][k]) = (0, cap);
             balance(rng, n, &mut table, cap);
         }
         IMPORTS => {
             clear_column(&mut table, k);
             table[FINAL][k] = cap - row_sum(&table, n, k);
             balance(rng, n, &mut table, cap);
-            table[OUTPUT][k] = table[EXPORTS][k];
-            table[VALUE][k] = table[EXPORTS][k] - column_sum(&table, n, k);
+            table[OUTPUT][k] = outflow(&table, k);
+            table[VALUE][k] = outflow(&table, k);
             table[IMPORTS][k] = cap;
         }
         VALUE => {
             clear_column(&mut table, k);
             table[FINAL][k] = cap;
             balance(rng, n, &mut table, cap);
-            table[IMPORTS][k] = row_sum(&table, n, k) + table[EXPORTS][k];
+            table[IMPORTS][k] = row_sum(&table, n, k) + outflow(&table, k);
             table[VALUE][k] = cap;
             table[OUTPUT][k] = cap;
         }
         _ => {
             table[FINAL][k] = cap;
             balance(rng, n, &mut table, cap);
-            table[IMPORTS][k] = row_sum(&table, n, k) + table[EXPORTS][k];
+            table[IMPORTS][k] = row_sum(&table, n, k) + outflow(&table, k);
             table[OUTPUT][k] = cap;
             table[VALUE][k] = cap - column_sum(&table, n, k);
         }
@@ -555,10 +582,39 @@ fn capped_table(rng: &mut Rng, n: usize) -> Table {
     table
 }
 
+/// A table in which E + G of one or two sectors is 1,000,000,000, or over it. Its columns and rows balance, unless imports would pass
+/// the limit. X is at the limit, so imports are as far over domestic need as E + G is over the limit: such a table is refused with 16,
+/// and where that is not asked with 6.
+fn outflow_table(rng: &mut Rng, n: usize) -> Table {
+    let mut table = small_table(rng, n);
+    balance(rng, n, &mut table, AMOUNT);
+    for _ in 0..rng.between(1, 2) {
+        let k = rng.spot(n);
+        let over = match rng.below(4) {
+            0 | 1 => 0,
+            2 => 1,
+            _ => rng.magnitude(AMOUNT),
+        };
+        // All exports but what is over, all adjustment but what is over, or both in any parts.
+        let exports = match rng.below(4) {
+            0 => AMOUNT,
+            1 => over,
+            _ => rng.between(over, AMOUNT),
+        };
+        table[EXPORTS][k] = exports;
+        table[ADJUSTMENT][k] = AMOUNT + over - exports;
+        table[OUTPUT][k] = AMOUNT;
+        table[VALUE][k] = AMOUNT - column_sum(&table, n, k);
+        table[IMPORTS][k] = (row_sum(&table, n, k) + table[FINAL][k] + over).min(AMOUNT);
+    }
+    table
+}
+
 fn table(rng: &mut Rng, n: usize) -> Table {
-    match rng.below(8) {
+    match rng.below(9) {
         0 => pressed_table(rng, n),
         1 => capped_table(rng, n),
+        2 => outflow_table(rng, n),
         _ => drawn_table(rng, n),
     }
 }
@@ -573,7 +629,7 @@ fn spoil_table(rng: &mut Rng, n: usize, table: &mut Table) {
     match rng.below(8) {
         // A cell at the limit, over it, or far over it.
         0 | 1 => {
-            let slice = rng.below(6);
+            let slice = rng.below(7);
             let at = rng.spot(table[slice].len());
             table[slice][at] = match rng.below(3) {
                 0 => AMOUNT,
@@ -584,24 +640,25 @@ fn spoil_table(rng: &mut Rng, n: usize, table: &mut Table) {
         2 => nudge(rng, &mut table[VALUE][k]),
         3 => nudge(rng, &mut table[OUTPUT][k]),
         4 => {
-            let slice = rng.of(&[FINAL, EXPORTS, IMPORTS]);
+            let slice = rng.of(&[FINAL, EXPORTS, IMPORTS, ADJUSTMENT]);
             nudge(rng, &mut table[slice][k]);
         }
         5 => {
             let at = rng.spot(n * n);
             nudge(rng, &mut table[0][at]);
         }
-        // Imports up to domestic need exactly, or one over; exports keep the row balanced.
+        // Imports up to domestic need exactly, or one over; exports or the adjustment keep the row balanced.
         6 => {
             let row: u64 = table[0][k * n..(k + 1) * n].iter().fold(0, |sum, x| sum.wrapping_add(*x));
             let need = row.wrapping_add(table[FINAL][k]);
             let more = need.wrapping_sub(table[IMPORTS][k]).wrapping_add(rng.upto(1));
             table[IMPORTS][k] = table[IMPORTS][k].wrapping_add(more);
-            table[EXPORTS][k] = table[EXPORTS][k].wrapping_add(more);
+            let slice = rng.of(&[EXPORTS, ADJUSTMENT]);
+            table[slice][k] = table[slice][k].wrapping_add(more);
         }
         // Two sectors that fail, to see the first taken.
         _ => {
-            let slice = rng.of(&[FINAL, EXPORTS, IMPORTS, VALUE, OUTPUT]);
+            let slice = rng.of(&[FINAL, EXPORTS, IMPORTS, VALUE, OUTPUT, ADJUSTMENT]);
             let other = rng.below(n);
             nudge(rng, &mut table[slice][k]);
             nudge(rng, &mut table[slice][other]);
@@ -624,8 +681,8 @@ fn coefficients_case(rng: &mut Rng) -> Case {
 // Table files
 // ---------------------------------------------------------------------------------------------
 
-/// The kinds of F, E, M, V, X and the rises.
-const COLUMN_KINDS: [u8; 6] = [3, 4, 5, 6, 7, 9];
+/// The kinds of F, E, M, V, X, G and the rises.
+const COLUMN_KINDS: [u8; 7] = [3, 4, 5, 6, 7, 10, 9];
 
 fn record(kind: u8, sectors: &[usize], amount: u64) -> Vec<u8> {
     let mut record = vec![kind];
@@ -707,7 +764,7 @@ fn spoil_records(rng: &mut Rng, n: usize, records: &mut Vec<Vec<u8>>) {
             };
         }
         // A kind that is none, or another.
-        4 => records[at][0] = rng.of(&[0, 10, 255, 8, 1, 2, 9, 128]),
+        4 => records[at][0] = rng.of(&[0, 11, 255, 8, 1, 2, 9, 10, 128]),
         // The number of sectors again.
         _ => {
             let again = vec![1, if rng.chance(1, 2) { n as u8 } else { rng.next() as u8 }];
@@ -757,13 +814,13 @@ fn random_file(rng: &mut Rng) -> Vec<u8> {
         }
         1 => {
             let length = rng.upto(12);
-            file.extend((0..length).map(|_| rng.upto(10) as u8));
+            file.extend((0..length).map(|_| rng.upto(11) as u8));
         }
         _ => {
             let n = rng.between(1, 6);
             file.extend([1, n as u8]);
             for _ in 0..rng.upto(12) {
-                let kind = rng.of(&[2, 2, 2, 3, 4, 5, 6, 7, 9]);
+                let kind = rng.of(&[2, 2, 2, 3, 4, 5, 6, 7, 9, 10]);
                 let sectors: Vec<usize> =
                     (0..if kind == 2 { 2 } else { 1 }).map(|_| 1 + rng.below(n as usize)).collect();
                 file.extend(record(kind, &sectors, rng.next()));
@@ -861,7 +918,7 @@ pub fn file_of(rng: &mut Rng, n: usize, table: &Table) -> Vec<u8> {
     joined(n, &records)
 }
 
-/// What a file holds, if it is one: n, and x, F, E, M, V, X and the rises of n sectors.
+/// What a file holds, if it is one: n, and x, F, E, M, V, X, G and the rises of n sectors.
 pub fn table_read(file: &[u8]) -> Option<(usize, Table)> {
     let read = reference::read_table(file, &reference::FILE_LENGTHS).ok()?;
     let n = read.counts[0];
@@ -873,13 +930,13 @@ fn write_case(rng: &mut Rng) -> Case {
     let size = if rng.chance(1, 4) { size(rng) } else { 1 + rng.below(5) };
     let (n, mut given) = match rng.below(4) {
         // What was read from a file; its amounts may be over the limit.
-        0 => table_read(&file(rng, false)).unwrap_or_else(|| (1, vec![vec![0]; 7])),
+        0 => table_read(&file(rng, false)).unwrap_or_else(|| (1, vec![vec![0]; 8])),
         _ => (size, written_table(rng, size)),
     };
-    // Cells at the limit, one over it, or far over it, the rises among them.
+    // Cells at the limit, one over it, or far over it, the adjustment and the rises among them.
     if rng.chance(1, 3) {
         for _ in 0..rng.between(1, 2) {
-            let slice = rng.below(7);
+            let slice = rng.below(8);
             let at = rng.spot(given[slice].len());
             given[slice][at] = match rng.below(4) {
                 0 => 0,

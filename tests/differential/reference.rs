@@ -5,7 +5,7 @@
 //! the cells of those slices after the call, in the interface's order, or a refusal.
 
 /// The last number of a question.
-pub const QUESTIONS: usize = 15;
+pub const QUESTIONS: usize = 16;
 pub const ONE: u128 = 1_000_000;
 pub const SECTORS: usize = 40;
 pub const AMOUNT_LIMIT: u128 = 1_000_000_000;
@@ -13,10 +13,10 @@ pub const COLUMN_LIMIT: u128 = 950_000;
 pub const DEMAND_LIMIT: u128 = 2_000_000_000;
 pub const RISE_LIMIT: u128 = 1_000_000_000;
 pub const PRODUCTION_LIMIT: u128 = 1_600_000_000_000;
-/// "The table file": 1,600 cells for x, 40 for each of six columns, 46 work words.
-pub const FILE_LENGTHS: [usize; 8] = [1600, 40, 40, 40, 40, 40, 40, 46];
-/// "A writer for table files": it is "lent exactly 12,643 bytes for the file".
-pub const FILE_BYTES: usize = 12_643;
+/// "The table file" with "the adjustment item": 1,600 cells for x, 40 for each of seven columns, 47 work words.
+pub const FILE_LENGTHS: [usize; 9] = [1600, 40, 40, 40, 40, 40, 40, 40, 47];
+/// "A writer for table files" is lent the bytes of the file; "the adjustment item" makes them 12,883.
+pub const FILE_BYTES: usize = 12_883;
 /// "The printed sheet": the program's budget.
 pub const PAGE_BUDGET: u32 = 1_400;
 
@@ -88,6 +88,16 @@ fn question_3(slices: &[(&[u64], u128)]) -> Asked {
     Ok(())
 }
 
+/// Question 16, asked after 3: is E plus G within 1,000,000,000? The place is the first failing sector.
+fn question_16(exports: &[u64], adjustment: &[u64]) -> Asked {
+    for (i, (e, g)) in exports.iter().zip(adjustment).enumerate() {
+        if u128::from(*e) + u128::from(*g) > AMOUNT_LIMIT {
+            return refuse(16, i);
+        }
+    }
+    Ok(())
+}
+
 /// Question 4: does every column balance? The place is the first failing column.
 fn question_4(n: usize, x: &[u64], value_added: &[u64], production: &[u64]) -> Asked {
     for j in 0..n {
@@ -98,7 +108,7 @@ fn question_4(n: usize, x: &[u64], value_added: &[u64], production: &[u64]) -> A
     Ok(())
 }
 
-/// Question 5: does every row balance? The place is the first failing row.
+/// Question 5: does every row balance, with G beside E? The place is the first failing row.
 fn question_5(
     n: usize,
     x: &[u64],
@@ -106,9 +116,13 @@ fn question_5(
     exports: &[u64],
     imports: &[u64],
     production: &[u64],
+    adjustment: &[u64],
 ) -> Asked {
     for i in 0..n {
-        let used = total(row_of(x, n, i)) + u128::from(final_demand[i]) + u128::from(exports[i]);
+        let used = total(row_of(x, n, i))
+            + u128::from(final_demand[i])
+            + u128::from(exports[i])
+            + u128::from(adjustment[i]);
         let supplied = u128::from(production[i]) + u128::from(imports[i]);
         if used != supplied {
             return refuse(5, i);
@@ -163,7 +177,7 @@ fn question_8_total(production: &[u64]) -> Asked {
 // "The table and its units", "The sheets, all rounded down"
 // ---------------------------------------------------------------------------------------------
 
-/// Domestic need: the sum over j of x(i,j), plus F(i); exports are not in it.
+/// Domestic need: the sum over j of x(i,j), plus F(i); exports and the adjustment are not in it.
 fn domestic_need(n: usize, x: &[u64], final_demand: &[u64], i: usize) -> u128 {
     total(row_of(x, n, i)) + u128::from(final_demand[i])
 }
@@ -173,7 +187,7 @@ fn share(amount: u64, whole: u128) -> u128 {
     if whole == 0 { 0 } else { u128::from(amount) * ONE / whole }
 }
 
-/// Sheets from a table: a, v, m, d, f. Asks 1 to 7.
+/// Sheets from a table: a, v, m, d, f. Asks 1 to 3, 16, 4 to 7.
 pub fn coefficients(
     n: usize,
     x: &[u64],
@@ -182,6 +196,7 @@ pub fn coefficients(
     imports: &[u64],
     value_added: &[u64],
     production: &[u64],
+    adjustment: &[u64],
     lent: &[usize],
 ) -> Result<Given, Refusal> {
     question_1(n)?;
@@ -192,6 +207,7 @@ pub fn coefficients(
         (imports.len(), n),
         (value_added.len(), n),
         (production.len(), n),
+        (adjustment.len(), n),
         (lent[0], n * n),
         (lent[1], n),
         (lent[2], n),
@@ -205,9 +221,11 @@ pub fn coefficients(
         (imports, AMOUNT_LIMIT),
         (value_added, AMOUNT_LIMIT),
         (production, AMOUNT_LIMIT),
+        (adjustment, AMOUNT_LIMIT),
     ])?;
+    question_16(exports, adjustment)?;
     question_4(n, x, value_added, production)?;
-    question_5(n, x, final_demand, exports, imports, production)?;
+    question_5(n, x, final_demand, exports, imports, production, adjustment)?;
     question_6(n, x, final_demand, imports)?;
 
     let mut a = vec![0; n * n];
@@ -233,7 +251,7 @@ pub fn coefficients(
     }
     for i in 0..n {
         let inside = (ONE - u128::from(m[i])) * u128::from(final_demand[i]) / ONE;
-        f[i] = cell(inside + u128::from(exports[i]));
+        f[i] = cell(inside + u128::from(exports[i]) + u128::from(adjustment[i]));
     }
     question_7(n, &d)?;
     Ok(Given { cells: vec![a, v, m, d, f], counts: [0, 0] })
@@ -399,12 +417,12 @@ pub fn row(n: usize, sheet: &[u64], sector: usize) -> (usize, usize) {
 // "The table file"
 // ---------------------------------------------------------------------------------------------
 
-/// Question 11, first half: the length of a kind's body; None if the kind is not 1 to 9.
+/// Question 11, first half: the length of a kind's body; None if the kind is not 1 to 10.
 fn body_length(kind: u8) -> Option<usize> {
     match kind {
         1 => Some(1),
         2 => Some(6),
-        3..=7 | 9 => Some(5),
+        3..=7 | 9 | 10 => Some(5),
         8 => Some(0),
         _ => None,
     }
@@ -416,7 +434,7 @@ fn amount(bytes: &[u8]) -> u64 {
 }
 
 /// The reader. Asks 2, then 11 to 15 of each record.
-/// Lent: x, F, E, M, V, X, rises, marks. Counts: n, named cells.
+/// Lent: x, F, E, M, V, X, G, rises, marks. Counts: n, named cells.
 pub fn read_table(file: &[u8], lent: &[usize]) -> Result<Given, Refusal> {
     let lengths: Vec<_> = lent.iter().copied().zip(FILE_LENGTHS).collect();
     question_2(&lengths)?;
@@ -458,11 +476,12 @@ pub fn read_table(file: &[u8], lent: &[usize]) -> Result<Given, Refusal> {
         if sectors.iter().any(|sector| *sector < 1 || *sector > n) {
             return no(13, offset);
         }
-        // Question 14. Lent slice 0 is x; kinds 3 to 7 are slices 1 to 5; kind 9 is slice 6.
+        // Question 14. Lent slice 0 is x; kinds 3 to 7 are slices 1 to 5; kind 10 is slice 6, and kind 9 slice 7.
         if kind != 1 && kind != 8 {
             let (slice, at) = match kind {
                 2 => (0, (sectors[0] - 1) * n + (sectors[1] - 1)),
-                9 => (6, sectors[0] - 1),
+                10 => (6, sectors[0] - 1),
+                9 => (7, sectors[0] - 1),
                 _ => (usize::from(kind) - 2, sectors[0] - 1),
             };
             if seen[slice][at] {
@@ -484,18 +503,18 @@ pub fn read_table(file: &[u8], lent: &[usize]) -> Result<Given, Refusal> {
 }
 
 // ---------------------------------------------------------------------------------------------
-// "A writer for table files" (document 02, ticket 1)
+// "A writer for table files", "the adjustment item" (document 02, tickets 1 and 3)
 // ---------------------------------------------------------------------------------------------
 
-/// The writer: x, F, E, M, V, X and the rises of n sectors, into so many lent bytes. Asks 1, 2, 3.
+/// The writer: x, F, E, M, V, X, G and the rises of n sectors, into so many lent bytes. Asks 1, 2, 3.
 /// It gives the bytes of the file, without the zeros after them.
-pub fn write_table(n: usize, slices: [&[u64]; 7], lent: usize) -> Result<Vec<u8>, Refusal> {
+pub fn write_table(n: usize, slices: [&[u64]; 8], lent: usize) -> Result<Vec<u8>, Refusal> {
     question_1(n)?;
     // "n × n cells of x and n of each column", and the bytes.
     let mut lengths = vec![(lent, FILE_BYTES), (slices[0].len(), n * n)];
     lengths.extend(slices[1..].iter().map(|column| (column.len(), n)));
     question_2(&lengths)?;
-    // "With the rises of kind 9 as a last column."
+    // "Question 3 reads G after X", and "the rises of kind 9 as a last column".
     question_3(&slices.map(|slice| (slice, AMOUNT_LIMIT)))?;
 
     // Every cell as its kind, its sector bytes and its amount.
@@ -505,12 +524,12 @@ pub fn write_table(n: usize, slices: [&[u64]; 7], lent: usize) -> Result<Vec<u8>
             cells.push((2, vec![i as u8 + 1, j as u8 + 1], amount));
         }
     }
-    for (kind, column) in [3, 4, 5, 6, 7, 9].into_iter().zip(&slices[1..]) {
+    for (kind, column) in [3, 4, 5, 6, 7, 10, 9].into_iter().zip(&slices[1..]) {
         for (sector, amount) in (1..).zip(*column) {
             cells.push((kind, vec![sector], *amount));
         }
     }
-    // "Cells in ascending kind, row and column, zeros left out."
+    // "Cells in ascending kind, row and column, zeros left out": so G is "written after the rises".
     cells.retain(|(_, _, amount)| *amount != 0);
     cells.sort();
 
@@ -552,6 +571,7 @@ fn page_lines(file: &[u8]) -> Result<String, Refusal> {
         column(3),
         column(4),
         column(5),
+        column(6),
         &[n * n, n, n, n * n, n],
     )?;
     let [a, v, m, d, f] = &sheets.cells[..] else { unreachable!() };

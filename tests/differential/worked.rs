@@ -1,8 +1,8 @@
 //! The paper's worked cases P1 to P12, its slips and its printed sheet, with the paper's numbers; files
-//! that name one cell or all; and the worked table written as a file.
+//! that name one cell or all; the worked table written as a file; and tables with an adjustment.
 
-use crate::calls::{Call, Case, Outcome};
-use crate::reference::{self, Refusal, FILE_BYTES, ONE};
+use crate::calls::{Call, Case, Outcome, PAGE_BYTES};
+use crate::reference::{self, Refusal, AMOUNT_LIMIT, FILE_BYTES, ONE};
 
 // "Worked table and its neighbours"
 const X: [u64; 4] = [100, 400, 300, 600];
@@ -13,11 +13,18 @@ const VALUE_ADDED: [u64; 2] = [600, 1000];
 const PRODUCTION: [u64; 2] = [1000, 2000];
 const D: [u64; 4] = [75_000, 150_000, 240_000, 240_000];
 const F: [u64; 2] = [625, 1280];
+const LIMIT: u64 = AMOUNT_LIMIT as u64;
 
 pub const PRINTED: &str = "sector demand production value imports\n\
                            1 625 999 599 249\n\
                            2 1280 1999 999 359\n\
                            rounds 9\n";
+
+/// The page of the table with an adjustment. The exact balance is 1000 2000 here too.
+const ADJUSTED: &str = "sector demand production value imports\n\
+                        1 650 999 599 299\n\
+                        2 1325 1999 999 449\n\
+                        rounds 8\n";
 
 /// The worked table as 91 bytes in ascending kind and cell.
 pub fn file() -> Vec<u8> {
@@ -37,8 +44,9 @@ pub fn file() -> Vec<u8> {
     file
 }
 
+/// The worked table, with an adjustment of 0.
 fn table() -> Case {
-    let columns = [FINAL_DEMAND, EXPORTS, IMPORTS, VALUE_ADDED, PRODUCTION];
+    let columns = [FINAL_DEMAND, EXPORTS, IMPORTS, VALUE_ADDED, PRODUCTION, [0, 0]];
     let mut given = vec![X.to_vec()];
     given.extend(columns.map(|column| column.to_vec()));
     Case::new(Call::Coefficients, 2, given)
@@ -119,6 +127,113 @@ pub fn cases() -> Vec<(&'static str, Case, Outcome)> {
     cases.push(("empty file", empty, fifteen));
     cases.extend(named_cases());
     cases.extend(writer_cases());
+    cases.extend(adjustment_cases());
+    cases
+}
+
+// The slices of a table.
+const E: usize = 2;
+const M: usize = 3;
+const V: usize = 4;
+const OUTPUT: usize = 5;
+const G: usize = 6;
+
+/// The worked table with an adjustment, by which its imports are higher.
+fn adjusted() -> Case {
+    let mut case = table();
+    (case.given[M], case.given[G]) = (vec![300, 450], vec![50, 90]);
+    case
+}
+
+/// Its file: in order of kind, the adjustment last.
+fn adjusted_file() -> Vec<u8> {
+    let mut file = file();
+    file[58..60].copy_from_slice(&300_u16.to_be_bytes());
+    file[64..66].copy_from_slice(&450_u16.to_be_bytes());
+    file.splice(90.., [10, 1, 0, 0, 0, 50, 10, 2, 0, 0, 0, 90, 8]);
+    file
+}
+
+/// A table without flows and final demand, with these exports and adjustments; X is V, and what X leaves is imported.
+fn outflows(exports: &[u64], adjustment: &[u64]) -> Case {
+    let n = exports.len();
+    let production: Vec<u64> = exports.iter().zip(adjustment).map(|(e, g)| (e + g).min(LIMIT)).collect();
+    let imports = (0..n).map(|i| exports[i] + adjustment[i] - production[i]).collect();
+    let (exports, adjustment) = (exports.to_vec(), adjustment.to_vec());
+    let given = vec![vec![0; n * n], vec![0; n], exports, imports, production.clone(), production, adjustment];
+    Case::new(Call::Coefficients, n, given)
+}
+
+/// "The adjustment item".
+fn adjustment_cases() -> Vec<(&'static str, Case, Outcome)> {
+    let mut cases = Vec::new();
+    // Exports that are told as adjustment change no sheet; an adjustment of its own is in the row balance and in f.
+    let a = [100_000, 200_000, 300_000, 300_000];
+    let sheets: [&[u64]; 5] = [&a, &[600_000, 500_000], &[250_000, 200_000], &D, &F];
+    let mut moved = table();
+    (moved.given[E], moved.given[G]) = (vec![200, 0], vec![50, 560]);
+    cases.push(("exports as adjustment", moved, accepted(0, &sheets)));
+    let d = [70_000, 140_000, 225_000, 225_000];
+    let sheets: [&[u64]; 5] = [&a, &[600_000, 500_000], &[300_000, 250_000], &d, &[650, 1325]];
+    cases.push(("an adjustment", adjusted(), accepted(0, &sheets)));
+
+    let mut no = |name, case: Case, number, place| {
+        let outcome = refused(&case, number, place);
+        cases.push((name, case, outcome));
+    };
+    // Question 3 reads G after X: G(1) is place n × n + 5n + 1. Question 5: the row with G too much or too little.
+    for (name, sector, amount, number, place) in [
+        ("an adjustment over", 1, LIMIT + 1, 3, 2 * 2 + 5 * 2 + 1),
+        ("an adjustment too much", 0, 51, 5, 0),
+        ("an adjustment too little", 1, 89, 5, 1),
+        ("an adjustment left out", 0, 0, 5, 0),
+    ] {
+        let mut case = adjusted();
+        case.given[G][sector] = amount;
+        no(name, case, number, place);
+    }
+    // Question 16 in the first sector, one between and the last; of two sectors the first; at its limit and one over it.
+    for k in 0..3 {
+        for (e, g) in [(LIMIT, 1), (1, LIMIT), (LIMIT, LIMIT), (LIMIT / 2, LIMIT / 2 + 1), (LIMIT / 2 + 1, LIMIT / 2)] {
+            let (mut exports, mut adjustment) = ([5, 6, 7], [0, 1, LIMIT - 7]);
+            (exports[k], adjustment[k]) = (e, g);
+            no("E and G over", outflows(&exports, &adjustment), 16, k);
+            // It is asked before 4, and after 3.
+            let mut unbalanced = outflows(&exports, &adjustment);
+            unbalanced.given[V][0] -= 1;
+            no("E and G over, column 0 unbalanced", unbalanced, 16, k);
+            for (slice, at, place) in [(0, 8, 8), (E, 0, 9 + 3), (OUTPUT, 2, 9 + 5 * 3 - 1), (G, 2, 9 + 6 * 3 - 1)] {
+                let mut over = outflows(&exports, &adjustment);
+                over.given[slice][at] = LIMIT + 1;
+                no("E and G over, an amount over", over, 3, place);
+            }
+        }
+        let mut two = ([LIMIT; 3], [LIMIT; 3]);
+        two.1[..k].fill(0);
+        no("E and G over in several sectors", outflows(&two.0, &two.1), 16, k);
+    }
+    for (e, g) in [(LIMIT, 0), (0, LIMIT), (1, LIMIT - 1), (LIMIT - 1, 1), (LIMIT / 2, LIMIT / 2)] {
+        let sheets: [&[u64]; 5] = [&[0; 9], &[1_000_000; 3], &[0; 3], &[0; 9], &[LIMIT; 3]];
+        cases.push(("E and G at their limit", outflows(&[e; 3], &[g; 3]), accepted(0, &sheets)));
+    }
+
+    // Reader and writer do not ask 16, a page shows it.
+    let over = vec![1, 1, 4, 1, 0x3b, 0x9a, 0xca, 0x00, 10, 1, 0x3b, 0x9a, 0xca, 0x00, 8];
+    let mut read: Vec<Vec<u64>> = reference::FILE_LENGTHS.iter().map(|k| vec![0; *k]).collect();
+    (read[E][0], read[G][0]) = (LIMIT, LIMIT);
+    let whole = Outcome { number: 0, place: 0, counts: [1, 2], cells: read, bytes: vec![] };
+    cases.push(("E and G over, read", Case::of_file(Call::ReadTable, over.clone()), whole));
+    let mut given = vec![vec![0]; 8];
+    (given[E][0], given[G][0]) = (LIMIT, LIMIT);
+    let written = Outcome::in_bytes(FILE_BYTES, Ok(over.clone()));
+    cases.push(("E and G over, written", Case::new(Call::WriteTable, 1, given), written));
+    for (name, file, page) in [
+        ("the page of E and G over", over, "refused 16 0\n"),
+        ("the page of an adjustment", adjusted_file(), ADJUSTED),
+    ] {
+        let printed = Outcome::in_bytes(PAGE_BYTES, Ok(page.as_bytes().to_vec()));
+        cases.push((name, Case::of_file(Call::Page, file), printed));
+    }
     cases
 }
 
@@ -129,7 +244,7 @@ fn named_cases() -> Vec<(&'static str, Case, Outcome)> {
     for row in sectors.clone() {
         records.extend(sectors.clone().map(|column| vec![2, row, column, 0, 0, 0, 0]));
     }
-    for kind in [3, 4, 5, 6, 7, 9] {
+    for kind in [3, 4, 5, 6, 7, 9, 10] {
         records.extend(sectors.clone().map(|sector| vec![kind, sector, 0, 0, 0, 0]));
     }
     let zeros: Vec<Vec<u64>> = reference::FILE_LENGTHS.iter().map(|k| vec![0; *k]).collect();
@@ -144,38 +259,49 @@ fn named_cases() -> Vec<(&'static str, Case, Outcome)> {
     cases
 }
 
-/// The worked table with these rises, to be written.
-fn to_write(rises: [u64; 2]) -> Case {
+/// The worked table with this adjustment and these rises, to be written.
+fn to_write(adjustment: [u64; 2], rises: [u64; 2]) -> Case {
     let mut given = table().given;
+    given[G] = adjustment.to_vec();
     given.push(rises.to_vec());
     Case::new(Call::WriteTable, 2, given)
 }
 
-/// "A writer for table files", of the worked table: 91 bytes in ascending kind and cell.
+/// "A writer for table files", of the worked table: 91 bytes in ascending kind and cell; "the adjustment item" after the rises.
 fn writer_cases() -> Vec<(&'static str, Case, Outcome)> {
     let no = |number, place| Err(Refusal { number, place });
     let written = |bytes| Outcome::in_bytes(FILE_BYTES, Ok(bytes));
-    let mut cases = vec![("written", to_write([0, 0]), written(file()))];
+    let mut cases = vec![("written", to_write([0, 0], [0, 0]), written(file()))];
     // A rise is a last record of kind 9, 1,000,000,000 is 3b 9a ca 00, and a zero is left out.
     let mut rise = file();
     rise.splice(90.., [9, 2, 0x3b, 0x9a, 0xca, 0x00, 8]);
-    cases.push(("written with a rise", to_write([0, 1_000_000_000]), written(rise)));
-    let mut without = to_write([0, 0]);
+    cases.push(("written with a rise", to_write([0, 0], [0, 1_000_000_000]), written(rise)));
+    // An adjustment is of kind 10, after a rise.
+    let mut both = file();
+    both.splice(90.., [9, 2, 0, 0, 1, 0, 10, 1, 0, 0, 0, 50, 10, 2, 0, 0, 0, 7, 8]);
+    cases.push(("written with an adjustment and a rise", to_write([50, 7], [0, 256]), written(both)));
+    let mut without = to_write([0, 0], [0, 0]);
     without.given[0][2] = 0;
     let mut left_out = file();
     left_out.drain(16..23);
     cases.push(("written without a zero", without, written(left_out)));
     let zeros = Call::WriteTable.given_lengths(40).iter().map(|length| vec![0; *length]).collect();
     cases.push(("written zeros", Case::new(Call::WriteTable, 40, zeros), written(vec![1, 40, 8])));
-    // Refusals: the second rise is place n × n + 5n + 1.
-    let over = to_write([0, 1_000_000_001]);
-    cases.push(("a rise over", over, Outcome::in_bytes(FILE_BYTES, no(3, 2 * 2 + 5 * 2 + 1))));
+    // Refusals: the second adjustment is place n × n + 5n + 1, the second rise n × n + 6n + 1.
+    for (name, adjustment, rises, place) in [
+        ("an adjustment over, written", [0, LIMIT + 1], [0, 0], 2 * 2 + 5 * 2 + 1),
+        ("an adjustment and a rise over", [LIMIT, LIMIT + 1], [LIMIT + 1, 0], 2 * 2 + 5 * 2 + 1),
+        ("a rise over", [0, LIMIT], [0, LIMIT + 1], 2 * 2 + 6 * 2 + 1),
+    ] {
+        let over = to_write(adjustment, rises);
+        cases.push((name, over, Outcome::in_bytes(FILE_BYTES, no(3, place))));
+    }
     for lent in [0, FILE_BYTES - 1, FILE_BYTES + 1] {
-        let case = Case { lent: vec![lent], ..to_write([0, 0]) };
+        let case = Case { lent: vec![lent], ..to_write([0, 0], [0, 0]) };
         cases.push(("other bytes lent", case, Outcome::in_bytes(lent, no(2, 0))));
     }
     for n in [0, 41] {
-        let case = Case { n, ..to_write([0, 0]) };
+        let case = Case { n, ..to_write([0, 0], [0, 0]) };
         cases.push(("n written", case, Outcome::in_bytes(FILE_BYTES, no(1, 0))));
     }
     cases
@@ -243,6 +369,21 @@ pub fn slips() -> Vec<(&'static str, bool)> {
     }
     let unsettled = reference::round(2, &D, &F, &near) != near;
     slips.push(("stopping within 1", count == 7 && near == [999, 1998] && unsettled));
+
+    // The adjustment in the divisor, cut by the import share, or left out of f.
+    let asked = adjusted();
+    let (imports, adjustment) = (asked.given[M][0], asked.given[G][0]);
+    let divisor = imports * one / (need + adjustment) == 285_714;
+    slips.push(("the adjustment in the divisor", divisor && imports * one / need == 300_000));
+    let sheets = reference::coefficients(
+        2, &X, &FINAL_DEMAND, &EXPORTS, &asked.given[M], &VALUE_ADDED, &PRODUCTION, &asked.given[G], &[4, 2, 2, 4, 2],
+    );
+    let f = sheets.map(|given| given.cells[4][0]);
+    let inside = 700_000 * FINAL_DEMAND[0] / one;
+    let cut = inside + EXPORTS[0] + 700_000 * adjustment / one;
+    slips.push(("the adjustment cut by the import share", cut == 635 && f == Ok(650)));
+    slips.push(("the adjustment left out", inside + EXPORTS[0] == 600 && f == Ok(650)));
+    slips.push(("103 bytes", adjusted_file().len() == 103));
 
     slips.push(("91 bytes", file().len() == 91));
     slips.push(("the printed sheet", reference::page(&file()) == PRINTED.as_bytes()));

@@ -33,6 +33,8 @@ except ImportError:
 
 FLOWS = [100, 400, 300, 600]
 COLUMNS = [[500, 900], [250, 560], [250, 360], [600, 1000], [1000, 2000]]
+ADJUSTMENT = [50, 90]
+ADJUSTED_IMPORTS = [300, 450]  # with these imports the adjustment balances
 DOMESTIC = [75_000, 150_000, 240_000, 240_000]
 ROWS = [[75_000, 150_000], [240_000, 240_000]]
 DEMAND = [625, 1280]
@@ -66,16 +68,31 @@ class Refusals(Refusing):
         self.refused(5, 0, t.coefficients, **table(exports=[251, 560]))
         self.refused(6, 0, t.coefficients, [0], [1], [5], [2], [4], [4])
         self.refused(7, 0, t.coefficients, [960_000], [40_000], [0], [0], [40_000], [1_000_000])
+        self.refused(16, 1, t.coefficients, **table(exports=[250, 10**9], adjustment=[0, 1]))
         self.refused(8, 1, t.production, DOMESTIC, [0, 2_000_000_001])
         self.refused(8, 0, t.production, DOMESTIC, [2**64 - 1, 0])
         self.refused(9, 0, t.production, DOMESTIC, DEMAND, 8)
         self.refused(10, 0, t.implied_demand, DOMESTIC, [0, 1000])
-        for number, place, file in [(11, 2, [1, 2, 10]), (12, 0, [1, 41]), (13, 2, [1, 2, 3, 3, 0, 0, 0, 1]),
-                                    (14, 8, [1, 2] + [3, 1, 0, 0, 0, 1] * 2), (15, 0, [])]:
+        for number, place, file in [(11, 2, [1, 2, 11]), (11, 2, [1, 2, 10, 1, 0, 0, 0]), (12, 0, [1, 41]),
+                                    (13, 2, [1, 2, 3, 3, 0, 0, 0, 1]), (13, 2, [1, 2, 10, 3, 0, 0, 0, 1]),
+                                    (14, 8, [1, 2] + [10, 1, 0, 0, 0, 1] * 2), (14, 8, [1, 2] + [3, 1, 0, 0, 0, 1] * 2), (15, 0, [])]:
             self.refused(number, place, t.read_table, bytes(file))
 
+    def test_exports_and_adjustment(self):
+        limit = 10**9
+        for exports, adjustment in ((limit, 0), (0, limit), (1, limit - 1), (limit - 1, 1)):
+            self.assertEqual(t.coefficients([0], [0], [exports], [0], [limit], [limit], [adjustment]).demand, [limit])
+        for exports, adjustment in ((limit, 1), (1, limit), (limit // 2, limit // 2 + 1), (limit, limit)):
+            self.refused(16, 0, t.coefficients, [0], [0], [exports], [1], [limit], [limit], [adjustment])
+        zeros = [0] * 3
+        for place, adjustment in enumerate(([limit] * 3, [0, limit, limit], [0, 0, limit])):
+            self.refused(16, place, t.coefficients, [0] * 9, zeros, [1] * 3, zeros, zeros, zeros, adjustment)
+        # 3 comes before 16, and 16 before 4
+        self.refused(3, 4 + 5 * 2 + 1, t.coefficients, **table(adjustment=[limit, limit + 1]))
+        self.refused(16, 0, t.coefficients, **table(adjustment=[limit, 0], value_added=[600, 1001]))
+
     def test_wrong_lengths_are_the_librarys_to_refuse(self):
-        for name in table():
+        for name in [*table(), "adjustment"]:
             self.refused(2, 0, t.coefficients, **table(**{name: [0] * 3}), n=2)
         self.refused(2, 0, t.production, DOMESTIC, DEMAND + [0])
         self.refused(2, 0, t.production, ROWS, DEMAND + [0])
@@ -132,10 +149,11 @@ class Sequences(Given):
             self.sheet_not_taken(TypeError, "domestic is a ", demand)
 
     def test_every_argument_is_named(self):
-        for name in table():
+        for name in [*table(), "adjustment"]:
             for wrong in ({0: 1}, None, "12"):
-                with self.assertRaisesRegex(TypeError, f"^{name} is a "):
-                    t.coefficients(**table(**{name: wrong}))
+                if wrong is not None or name != "adjustment":
+                    with self.assertRaisesRegex(TypeError, f"^{name} is a "):
+                        t.coefficients(**table(**{name: wrong}))
             with self.assertRaisesRegex(ValueError, rf"^{name}\[1\] is -7, below 0$"):
                 t.coefficients(**table(**{name: [0, -7]}))
         names = ["inputs", "imports", "value_added", "final_demand", "production"]
@@ -345,10 +363,36 @@ class Files(unittest.TestCase):
         file = (ROOT / "examples/worked.table").read_bytes()
         self.assertEqual(len(file), 91)
         read = t.read_table(file)
-        self.assertEqual(read, (2, 14, FLOWS, *COLUMNS, [0, 0]))
-        self.assertEqual(t.coefficients(*read[2:8]).demand, DEMAND)
+        self.assertEqual(read, (2, 14, FLOWS, *COLUMNS, [0, 0], [0, 0]))
+        self.assertEqual(t.coefficients(*read[2:9]).demand, DEMAND)
         for given in (file, bytearray(file), memoryview(file), array("B", file), memoryview(file[::-1])[::-1]):
             self.assertEqual(t.page(given), (ROOT / "crates/roadsheet/stdout").read_bytes())
+
+    def test_a_table_with_an_adjustment(self):
+        file = (ROOT / "examples/adjusted.table").read_bytes()
+        self.assertEqual(len(file), 103)
+        read = t.read_table(file)
+        self.assertEqual(read, (2, 16, *table(imports=ADJUSTED_IMPORTS).values(), ADJUSTMENT, [0, 0]))
+        sheets = t.coefficients(*read[2:9])
+        self.assertEqual(sheets, t.coefficients(**table(imports=ADJUSTED_IMPORTS, adjustment=ADJUSTMENT)))
+        self.assertEqual((sheets.imports, sheets.demand), ([300_000, 250_000], [650, 1325]))
+        made = t.production(sheets.domestic, sheets.demand)
+        lines = [b"sector demand production value imports", b"1 650 999 599 299", b"2 1325 1999 999 449", b"rounds 8", b""]
+        self.assertEqual((made, t.page(file)), (([999, 1999], 8), b"\n".join(lines)))
+
+    def test_no_adjustment_is_zeros(self):
+        sheets = t.coefficients(FLOWS, *COLUMNS)
+        for adjustment in (None, [0, 0], (0, 0), array("Q", [0, 0])):
+            self.assertEqual(t.coefficients(FLOWS, *COLUMNS, adjustment), sheets)
+        moved = table(exports=[200, 0], adjustment=[50, 560])
+        self.assertEqual(t.coefficients(**moved), sheets)
+        with self.assertRaises(t.Refused):
+            t.coefficients(**table(imports=ADJUSTED_IMPORTS))
+
+    def test_exports_and_adjustment_over_their_limit(self):
+        table = t.Table.of([0], [0], [10**9], [0], [0], [0], [1])
+        file = t.write_table(table)
+        self.assertEqual((t.read_table(file), t.page(file)), (table, b"refused 16 0\n"))
 
     def test_what_is_no_file(self):
         for given in ("examples/worked.table", Path("worked.table"), None, [1, 2, 8], {1: 2}, array("I", [1, 2]), array("Q", [1])):
@@ -360,8 +404,8 @@ class Files(unittest.TestCase):
 class Written(Refusing):
     """Tables written as files."""
 
-    SLICES = ["flows", "final_demand", "exports", "imports", "value_added", "production", "rises"]
-    WORKED = t.Table(2, 14, FLOWS, *COLUMNS, [0, 0])
+    SLICES = ["flows", "final_demand", "exports", "imports", "value_added", "production", "adjustment", "rises"]
+    WORKED = t.Table(2, 14, FLOWS, *COLUMNS, [0, 0], [0, 0])
     FILE = (ROOT / "examples/worked.table").read_bytes()
 
     def records(self, file):
@@ -376,9 +420,11 @@ class Written(Refusing):
     def tables(self):
         yield self.WORKED
         yield self.WORKED._replace(named=16, rises=[7, 1_000_000_000])
-        yield t.Table(1, 0, [0], [0], [0], [0], [0], [0], [0])
-        yield t.Table(1, 7, [1], [2], [3], [4], [5], [6], [7])
-        yield t.Table(40, 1840, list(range(1, 1601)), *([10**9 - 256 * k - i for i in range(40)] for k in range(6)))
+        yield self.WORKED._replace(named=16, adjustment=[7, 1_000_000_000])
+        yield self.WORKED._replace(named=18, adjustment=[5, 6], rises=[7, 8])
+        yield t.Table(1, 0, [0], [0], [0], [0], [0], [0], [0], [0])
+        yield t.Table(1, 8, [1], [2], [3], [4], [5], [6], [7], [8])
+        yield t.Table(40, 1880, list(range(1, 1601)), *([10**9 - 256 * k - i for i in range(40)] for k in range(7)))
 
     def test_the_example_files(self):
         for file in (ROOT / "examples").glob("*.table"):
@@ -391,12 +437,13 @@ class Written(Refusing):
             self.assertEqual(t.read_table(file), table)
             self.assertEqual(self.records(file), sorted(self.records(file)))
             self.assertEqual(t.write_table(t.read_table(file)), file)
-        self.assertEqual(len(file), 12_643)
+        self.assertEqual(len(file), 12_883)
 
     def test_one_file_of_a_table(self):
         records = self.records(self.FILE)
-        named_zero = bytes([9, 2, 0, 0, 0, 0])
-        for other in (records[::-1], records[5:] + records[:5], [named_zero, *records], [*records[::-1], named_zero]):
+        named_zero, adjusted_zero = bytes([9, 2, 0, 0, 0, 0]), bytes([10, 1, 0, 0, 0, 0])
+        for other in (records[::-1], records[5:] + records[:5], [named_zero, *records], [*records[::-1], named_zero],
+                      [adjusted_zero, *records, named_zero]):
             file = bytes([1, 2]) + b"".join(other) + bytes([8])
             self.assertNotEqual(file, self.FILE)
             self.assertEqual(t.write_table(t.read_table(file)), self.FILE)
@@ -430,7 +477,8 @@ class Written(Refusing):
                 for over in (10**9 + 1, 2**32, 2**64 - 1):
                     self.refused(3, place, t.write_table, self.WORKED._replace(**{name: cells[:k] + [over] + cells[k + 1:]}))
                 place += 1
-        self.refused(3, 2 * 2 + 5 * 2, t.write_table, self.WORKED._replace(rises=[10**9 + 1, 10**9 + 1]))
+        self.refused(3, 2 * 2 + 5 * 2, t.write_table, self.WORKED._replace(adjustment=[10**9 + 1, 0], rises=[10**9 + 1, 0]))
+        self.refused(3, 2 * 2 + 6 * 2, t.write_table, self.WORKED._replace(rises=[10**9 + 1, 10**9 + 1]))
         self.refused(3, 4, t.write_table, t.read_table(bytes([1, 2, 3, 1, 255, 255, 255, 255, 8])))
 
     def test_tables_of_lists(self):
@@ -440,10 +488,12 @@ class Written(Refusing):
             made = t.Table.of(flows, *columns)
             self.assertEqual(made, self.WORKED)
             self.assertEqual({type(cell) for name in self.SLICES for cell in getattr(made, name)}, {int})
-        self.assertEqual(t.Table.of(FLOWS, *COLUMNS, [0, 5]).named, 15)
+        self.assertEqual(t.Table.of(FLOWS, *COLUMNS, [0, 5]), self.WORKED._replace(named=15, adjustment=[0, 5]))
+        self.assertEqual(t.Table.of(FLOWS, *COLUMNS, rises=[0, 5]), self.WORKED._replace(named=15, rises=[0, 5]))
+        self.assertEqual(t.Table.of(FLOWS, *COLUMNS, [1, 2], [0, 5]), self.WORKED._replace(named=17, adjustment=[1, 2], rises=[0, 5]))
         self.assertEqual(t.Table.of(FLOWS, *COLUMNS, n=3).sectors, 3)
         self.assertEqual(t.write_table(self.WORKED._replace(flows=rows, exports=(250.0, 560))), self.FILE)
-        self.assertEqual(t.coefficients(*t.Table.of(**table())[2:8]).demand, DEMAND)
+        self.assertEqual(t.coefficients(*t.Table.of(**table())[2:9]).demand, DEMAND)
 
     def test_what_is_no_table(self):
         for given in (None, 2, self.FILE, tuple(self.WORKED), list(self.WORKED), table(), (FLOWS, *COLUMNS)):
@@ -455,7 +505,7 @@ class Written(Refusing):
                                        (ValueError, r"\[1\] is 0.5, not a whole number$", [0, 0.5])):
                 with self.assertRaisesRegex(error, f"^{name}{text}"):
                     t.write_table(self.WORKED._replace(**{name: wrong}))
-                if wrong is not None or name != "rises":
+                if wrong is not None or name not in ("adjustment", "rises"):
                     with self.assertRaisesRegex(error, f"^{name}{text}"):
                         t.Table.of(**{**table(), name: wrong})
         for wrong in (-1, 2**64):

@@ -129,7 +129,7 @@ abbrev pub inducedAmounts : (a m v F : Cells) → List Check
 inducedAmounts a m v F = countedOn 0 (bounded 3 0 one a ∷ bounded 3 0 one m ∷ bounded 3 0 one v ∷ bounded 3 0 amountLimit F ∷ [])
 
 module _ (t : Table) where
-  -- 16. document 02, ticket 3, asked after 3: E plus G is within 1,000,000,000 in every sector. With F as much, this keeps f within question 8's limit
+  -- 16. document 02, ticket 3, asked after 3: E plus G is within 1,000,000,000 in every sector
   abbrev pub exportsWithin : Check
   exportsWithin = each 16 (t .sectors) (λ i. leb (adjustedExports t i) amountLimit)
 

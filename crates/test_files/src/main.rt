@@ -19,7 +19,7 @@ use test_show::show_written;
 
 // Cuts the columns, one after the other, two amounts each; the rises are as many as are left.
 fn cut(n: usize, x: &[u64], columns: &[u64], file: &mut [u8]) {
-    if columns.len() < 10 {
+    if columns.len() < 12 {
         return;
     }
     let length = show_written(write_table(
@@ -30,21 +30,22 @@ fn cut(n: usize, x: &[u64], columns: &[u64], file: &mut [u8]) {
         &columns[4..6],
         &columns[6..8],
         &columns[8..10],
-        &columns[10..],
+        &columns[10..12],
+        &columns[12..],
         file,
     ));
     show_bytes(file, length);
 }
 
-// A table of two sectors: the flows row by row, and final demand, exports, imports, value added, production and the rises.
-fn table(name: &[u8], n: usize, x: [u64; 4], columns: [u64; 12]) {
+// A table of two sectors: the flows row by row, and final demand, exports, imports, value added, production, the adjustment item and the rises.
+fn table(name: &[u8], n: usize, x: [u64; 4], columns: [u64; 14]) {
     let mut file = [7u8; FILE];
     show_word(name);
     cut(n, &x, &columns, &mut file);
 }
 
-// The worked table with another flow and these rises.
-fn worked(name: &[u8], n: usize, flow: u64, rise: u64, second: u64) {
+// The worked table with another flow, this adjustment item of sector 1 and these rises.
+fn worked(name: &[u8], n: usize, flow: u64, item: u64, rise: u64, second: u64) {
     table(
         name,
         n,
@@ -60,6 +61,8 @@ fn worked(name: &[u8], n: usize, flow: u64, rise: u64, second: u64) {
             1000,
             1000,
             2000,
+            item,
+            0,
             rise,
             second,
         ],
@@ -67,36 +70,39 @@ fn worked(name: &[u8], n: usize, flow: u64, rise: u64, second: u64) {
 }
 
 fn written() {
-    worked(b"worked table", 2, 300, 0, 0);
-    worked(b"zero left out", 2, 0, 0, 0);
-    worked(b"rise at the limit", 2, 300, 0, 1000000000);
-    table(b"all zero", 2, [0; 4], [0; 12]);
+    worked(b"worked table", 2, 300, 0, 0, 0);
+    worked(b"zero left out", 2, 0, 0, 0, 0);
+    worked(b"rise at the limit", 2, 300, 0, 0, 1000000000);
+    worked(b"item after the rise", 2, 300, 50, 0, 7);
+    worked(b"item at the limit", 2, 300, 1000000000, 0, 0);
+    table(b"all zero", 2, [0; 4], [0; 14]);
 }
 
 fn refused() {
-    worked(b"flow over", 2, 1000000001, 1000000001, 0);
-    worked(b"rise over", 2, 300, 1000000001, 0);
-    worked(b"second rise over", 2, 300, 0, 18446744073709551615);
-    worked(b"no sectors", 0, 300, 0, 0);
-    worked(b"another n", 3, 300, 0, 0);
+    worked(b"flow over", 2, 1000000001, 0, 1000000001, 0);
+    worked(b"item over", 2, 300, 1000000001, 1000000001, 0);
+    worked(b"rise over", 2, 300, 0, 1000000001, 0);
+    worked(b"second rise over", 2, 300, 0, 0, 18446744073709551615);
+    worked(b"no sectors", 0, 300, 0, 0, 0);
+    worked(b"another n", 3, 300, 0, 0, 0);
 }
 
 fn rises_short() {
     let mut file = [7u8; FILE];
     show_word(b"rises short");
-    cut(2, &[0; 4], &[0; 11], &mut file);
+    cut(2, &[0; 4], &[0; 13], &mut file);
 }
 
 fn byte_short() {
     let mut file = [7u8; FILE - 1];
     show_word(b"a byte short");
-    cut(2, &[0; 4], &[0; 12], &mut file);
+    cut(2, &[0; 4], &[0; 14], &mut file);
 }
 
 fn byte_more() {
     let mut file = [7u8; FILE + 1];
     show_word(b"a byte more");
-    cut(2, &[0; 4], &[0; 12], &mut file);
+    cut(2, &[0; 4], &[0; 14], &mut file);
 }
 
 // Every mark is set before the call.
@@ -106,6 +112,7 @@ fn read(name: &[u8], file: &[u8]) {
     show_read(read_table(
         file,
         &mut [7u64; SHEET],
+        &mut [7u64; SECTORS],
         &mut [7u64; SECTORS],
         &mut [7u64; SECTORS],
         &mut [7u64; SECTORS],
@@ -131,6 +138,7 @@ fn read_full() {
         &column,
         &column,
         &column,
+        &column,
         &mut file,
     );
     read(b"every cell named", &file);
@@ -139,6 +147,8 @@ fn read_full() {
 fn named() {
     read(b"no cell named", &[1, 2, 8]);
     read(b"a zero named", &[1, 2, 3, 1, 0, 0, 0, 0, 8]);
+    read(b"an item named", &[1, 2, 10, 2, 0, 0, 0, 5, 8]);
+    read(b"no such kind", &[1, 2, 11, 2, 0, 0, 0, 5, 8]);
     read(
         b"a cell named twice",
         &[1, 2, 3, 1, 0, 0, 0, 0, 3, 1, 0, 0, 0, 0, 8],

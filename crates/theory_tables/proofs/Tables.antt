@@ -107,7 +107,7 @@ module _ (t : Table) (a : TableAmounts t) (b : Balanced t) where
   unfolding importCoefficient
   import-small i h = share-le (cell (imports t) i) (need t i) (b .covered i h)
 
-  -- by 16 E plus G is no more than E alone may be, so f stays within the limit of question 8
+  -- with G in it too f is within the limit of question 8: F is within the limit of amounts by 3, and E plus G by 16
   pub demand-small : (i : ℕ) → i < t .sectors → domesticDemand t i ≤ demandLimit
   unfolding domesticDemand
   demand-small i h =
