@@ -202,7 +202,7 @@ fn show_domestic(d: [u64; 9]) {
     show_line(b"domestic coefficients", &d);
 }
 
-// A table in million yen that balances: every amount rounds to the one that table 3-1 prints, its adjustment item of 3,470 is among the exports.
+// A table in million yen that balances: every amount rounds to the one that table 3-1 prints, and its adjustment item is 3,470.
 const FLOWS: [u64; 9] = [
     49200,
     210913,
@@ -220,14 +220,23 @@ fn finer_table() {
     finer_sheets(
         &FLOWS,
         &[62022, 1180903, 2909404],
-        &[175289, 1180145, 193119],
+        &[175289, 1176675, 193119],
         &[108816, 1577781, 431691],
         &[171981, 653051, 2757562],
         &[398975, 1864402, 4110315],
+        &[0, 3470, 0],
     );
 }
 
-fn finer_sheets(x: &[u64], fin: &[u64], e: &[u64], imports: &[u64], value: &[u64], p: &[u64]) {
+fn finer_sheets(
+    x: &[u64],
+    fin: &[u64],
+    e: &[u64],
+    imports: &[u64],
+    value: &[u64],
+    p: &[u64],
+    g: &[u64],
+) {
     let mut a = [7u64; 9];
     let mut v = [7u64; 3];
     let mut m = [7u64; 3];
@@ -241,6 +250,7 @@ fn finer_sheets(x: &[u64], fin: &[u64], e: &[u64], imports: &[u64], value: &[u64
         imports,
         value,
         p,
+        g,
         &mut a,
         &mut v,
         &mut m,

@@ -18,7 +18,16 @@ fn show_sheets(a: &[u64], v: &[u64], m: &[u64], d: &[u64], f: &[u64]) {
 }
 
 // Sheets from a table of n sectors with slices for two: a, v, m, d and f.
-fn two_sectors(n: usize, x: &[u64], fin: &[u64], e: &[u64], m: &[u64], v: &[u64], p: &[u64]) {
+fn two_sectors(
+    n: usize,
+    x: &[u64],
+    fin: &[u64],
+    e: &[u64],
+    m: &[u64],
+    v: &[u64],
+    p: &[u64],
+    g: &[u64],
+) {
     let mut a = [7u64; 4];
     let mut values = [7u64; 2];
     let mut shares = [7u64; 2];
@@ -32,6 +41,7 @@ fn two_sectors(n: usize, x: &[u64], fin: &[u64], e: &[u64], m: &[u64], v: &[u64]
         m,
         v,
         p,
+        g,
         &mut a,
         &mut values,
         &mut shares,
@@ -42,7 +52,7 @@ fn two_sectors(n: usize, x: &[u64], fin: &[u64], e: &[u64], m: &[u64], v: &[u64]
 }
 
 // The same of a table of three sectors, with slices for three.
-fn three_sectors(x: &[u64], fin: &[u64], e: &[u64], m: &[u64], v: &[u64], p: &[u64]) {
+fn three_sectors(x: &[u64], fin: &[u64], e: &[u64], m: &[u64], v: &[u64], p: &[u64], g: &[u64]) {
     let mut a = [7u64; 9];
     let mut values = [7u64; 3];
     let mut shares = [7u64; 3];
@@ -56,6 +66,7 @@ fn three_sectors(x: &[u64], fin: &[u64], e: &[u64], m: &[u64], v: &[u64], p: &[u
         m,
         v,
         p,
+        g,
         &mut a,
         &mut values,
         &mut shares,
@@ -66,7 +77,7 @@ fn three_sectors(x: &[u64], fin: &[u64], e: &[u64], m: &[u64], v: &[u64], p: &[u
 }
 
 // Cuts the columns, one after the other, two amounts each; the exports are as many as are left.
-fn cut(n: usize, x: &[u64], columns: &[u64]) {
+fn cut(n: usize, x: &[u64], columns: &[u64], g: &[u64]) {
     if columns.len() < 8 {
         return;
     }
@@ -79,13 +90,14 @@ fn cut(n: usize, x: &[u64], columns: &[u64]) {
         &columns[end..end + 2],
         &columns[end + 2..end + 4],
         &columns[end + 4..],
+        g,
     );
 }
 
-// The flows row by row, and final demand, exports, imports, value added and production.
-fn sheets(name: &[u8], n: usize, x: [u64; 4], columns: [u64; 10]) {
+// The flows row by row, final demand, exports, imports, value added and production, and the adjustment item.
+fn sheets(name: &[u8], n: usize, x: [u64; 4], columns: [u64; 10], g: [u64; 2]) {
     show_word(name);
-    cut(n, &x, &columns);
+    cut(n, &x, &columns, &g);
 }
 
 // The worked table with another cell of x.
@@ -95,12 +107,13 @@ fn with_flow(name: &[u8], flow: u64) {
         2,
         [100, 400, 300, flow],
         [500, 900, 250, 560, 250, 360, 600, 1000, 1000, 2000],
+        [0; 2],
     );
 }
 
 // The worked table with other columns.
 fn with_columns(name: &[u8], columns: [u64; 10]) {
-    sheets(name, 2, [100, 400, 300, 600], columns);
+    sheets(name, 2, [100, 400, 300, 600], columns, [0; 2]);
 }
 
 fn flows() {
@@ -129,29 +142,68 @@ fn columns() {
     );
 }
 
+// The worked table with an adjustment item of 50 in place of as many exports, and with one over its limit.
+fn adjusted() {
+    sheets(
+        b"adjustment",
+        2,
+        [100, 400, 300, 600],
+        [500, 900, 200, 560, 250, 360, 600, 1000, 1000, 2000],
+        [50, 0],
+    );
+    sheets(
+        b"adjustment over",
+        2,
+        [100, 400, 300, 600],
+        [500, 900, 250, 560, 250, 360, 600, 1000, 1000, 2000],
+        [0, 1000000001],
+    );
+}
+
+// A sector that sells abroad all that it makes: with the adjustment item as much as is allowed, and one more.
+fn exporting() {
+    sheets(
+        b"exports at the limit",
+        2,
+        [0; 4],
+        [0, 0, 0, 999999999, 0, 0, 0, 1000000000, 0, 1000000000],
+        [0, 1],
+    );
+    sheets(
+        b"exports over",
+        2,
+        [0; 4],
+        [0, 0, 0, 1000000000, 0, 0, 0, 1000000000, 0, 1000000000],
+        [0, 1],
+    );
+}
+
 fn more_tables() {
     sheets(
         b"column sum over",
         2,
         [960, 0, 0, 0],
         [40, 5, 0, 0, 0, 0, 40, 5, 1000, 5],
+        [0; 2],
     );
-    sheets(b"all zero", 2, [0; 4], [0; 10]);
+    sheets(b"all zero", 2, [0; 4], [0; 10], [0; 2]);
     sheets(
         b"bought by nobody",
         2,
         [0, 5, 0, 0],
         [0, 0, 0, 0, 0, 0, 5, 0, 5, 0],
+        [0; 2],
     );
-    sheets(b"no sectors", 0, [0; 4], [0; 10]);
+    sheets(b"no sectors", 0, [0; 4], [0; 10], [0; 2]);
 }
 
 fn exports_short() {
     show_word(b"exports short");
-    cut(2, &[0; 4], &[0; 9]);
+    cut(2, &[0; 4], &[0; 9], &[0; 2]);
 }
 
-// Table 3-1 of document 001, in units of 100 million yen: amounts that were rounded one by one, so that the third column misses by one.
+// Table 3-1 of document 001, in units of 100 million yen, with its adjustment item: amounts that were rounded one by one, so that the third column
+// misses by one.
 fn printed_table() {
     show_word(b"Miyazaki as printed");
     three_sectors(
@@ -161,12 +213,15 @@ fn printed_table() {
         &[1088, 15778, 4317],
         &[1720, 6531, 27576],
         &[3990, 18644, 41103],
+        &[0, 34, 0],
     );
 }
 
 fn main() {
     flows();
     columns();
+    adjusted();
+    exporting();
     more_tables();
     exports_short();
     printed_table();
