@@ -2,7 +2,7 @@
 -- formulas. Assumes nothing.
 use mathlib.Core.Bool.{true}
 use mathlib.Core.List.{List, [], _∷_, _++_, map}
-use mathlib.Core.Path.{_≡_, refl, sym, ap, ap₂, _∙_, subst, fun-ext}
+use mathlib.Core.Path.{_≡_, sym, ap, ap₂, _∙_, subst, fun-ext}
 use Prim.Native.Nat.{ℕ, _+_, _*_, _-_, _≤_, _<_, zero-le}
 use native.Mathlib.Nat.{add-zero}
 use borrow.Author.Tests.{le-leb, eq-eqb}
@@ -10,11 +10,11 @@ use lib.Dec.{eqb, leb}
 use lib.ListN.{length, replicate, length-replicate}
 use Rattle.model.specs.Numbers.{one, cell, at}
 use Rattle.model.specs.Table.{Table, tableOf, adjustedExports, need, portion, inputCoefficient, valueAddedCoefficient, importCoefficient, domesticCoefficient, domesticDemand}
-use Rattle.model.specs.Checks.{Report, Check, verdict, output, each, size, lengths, bounded, countedOn, amountLimit, tableAmounts, exportsWithin, columnBalances, rowBalances, importsCovered, columnSums, demandLimit}
+use Rattle.model.specs.Checks.{Report, Check, verdict, output, each, size, lengths, bounded, amountLimit, tableAmounts, exportsWithin, columnBalances, rowBalances, importsCovered, columnSums, demandLimit}
 use Rattle.model.specs.Calls.{coefficientsReport, inputCoefficients, valueAddedCoefficients, importCoefficients, domesticCoefficients, domesticDemands}
 use Rattle.model.specs.Figures.{reportFrom, figuresReport}
 use Rattle.model.specs.Page.{pageFrom, tablePage}
-use Rattle.model.specs.Unadjusted.{NoAdjustment, withoutAdjustment, unadjustedRows, unadjustedReport, unadjustedDemands, unadjustedPage}
+use Rattle.model.specs.Unadjusted.{unadjustedRows, unadjustedReport, unadjustedDemands, unadjustedPage}
 use Rattle.model.specs.Contracts.{Derived}
 use Rattle.theory.proofs.Lists.{tabulate-cong, cell-zeros}
 use Rattle.theory.proofs.Verdicts.{AllPass, passed-after, output-given}
