@@ -151,14 +151,15 @@ noSheets = (0 ∷ 0 ∷ 0 ∷ 0 ∷ []) ∷ (0 ∷ 0 ∷ []) ∷ (0 ∷ 0 ∷ []
 
 unfoldable pub adjustedRows : List Row
 adjustedRows =
-    -- 50 of the worked table's exports as an adjustment item: every sheet stays. Cut by the import share f(0) would be 612, in the divisor m(0) 238,095
+    -- the worked table with an adjustment item of 50 and 90, and imports as much larger. Cut by the import share f(0) would be 635, in the divisor
+    -- m(0) 285,714
     coefficientsOf
     (record {
       sectors = 2;
       flows = 100 ∷ 400 ∷ 300 ∷ 600 ∷ [];
-      columns = (500 ∷ 900 ∷ []) ∷ (200 ∷ 560 ∷ []) ∷ (250 ∷ 360 ∷ []) ∷ (600 ∷ 1000 ∷ []) ∷ (1000 ∷ 2000 ∷ []) ∷ (50 ∷ 0 ∷ []) ∷ [];
+      columns = (500 ∷ 900 ∷ []) ∷ (250 ∷ 560 ∷ []) ∷ (300 ∷ 450 ∷ []) ∷ (600 ∷ 1000 ∷ []) ∷ (1000 ∷ 2000 ∷ []) ∷ (50 ∷ 90 ∷ []) ∷ [];
     })
-    ⊳ (accepts [] leaving ((100000 ∷ 200000 ∷ 300000 ∷ 300000 ∷ []) ∷ (600000 ∷ 500000 ∷ []) ∷ (250000 ∷ 200000 ∷ []) ∷ d ∷ f ∷ []))
+    ⊳ (accepts [] leaving ((100000 ∷ 200000 ∷ 300000 ∷ 300000 ∷ []) ∷ (600000 ∷ 500000 ∷ []) ∷ (300000 ∷ 250000 ∷ []) ∷ (70000 ∷ 140000 ∷ 225000 ∷ 225000 ∷ []) ∷ (650 ∷ 1325 ∷ []) ∷ []))
     -- E plus G of exactly 1,000,000,000; one more is refused by 16 in its sector, also where 4 would refuse
     ∷ coefficientsOf (exporting (0 ∷ 999999999 ∷ []) (0 ∷ 1 ∷ []) (0 ∷ 1000000000 ∷ []) (0 ∷ 1000000000 ∷ []))
     ⊳ (accepts [] leaving ((0 ∷ 0 ∷ 0 ∷ 0 ∷ []) ∷ (0 ∷ 1000000 ∷ []) ∷ (0 ∷ 0 ∷ []) ∷ (0 ∷ 0 ∷ 0 ∷ 0 ∷ []) ∷ (0 ∷ 1000000000 ∷ []) ∷ []))

@@ -1,5 +1,5 @@
 -- Document 01, "The printed sheet": the page of the worked table's 91 bytes, and pages of refusals, computed by the checker. Assumes nothing.
-use mathlib.Core.Bool.{_&&_, cond}
+use mathlib.Core.Bool.{cond}
 use mathlib.Core.Path.{_≡_, refl}
 use mathlib.Core.List.{List, [], _∷_, map}
 use Prim.Native.Nat.{ℕ}
@@ -22,10 +22,10 @@ infix 68 _⊳_
 abbrev _⊳_ : List ℕ → List ℕ → Row
 s ⊳ p = record { file = s; printed = p }
 
--- the worked table's cells with exports of 200 in sector 1 and an adjustment item of 50
+-- the worked table's cells with other imports, and an adjustment item of 50 and 90
 abbrev adjusted : List Entry → List Entry
-adjusted [] = naming 46 0 50 ∷ []
-adjusted (e ∷ es) = cond (eqb (e .word) 41 && eqb (e .position) 0) (naming 41 0 200) e ∷ adjusted es
+adjusted [] = naming 46 0 50 ∷ naming 46 1 90 ∷ []
+adjusted (e ∷ es) = cond (eqb (e .word) 42) (naming 42 (e .position) (cond (eqb (e .position) 0) 300 450)) e ∷ adjusted es
 
 unfoldable pub pages : List Row
 pages =
@@ -37,8 +37,8 @@ pages =
     ∷ fileOf 2 (naming 44 1 1 ∷ []) ⊳ bytes "refused 4 1\n"
     -- sector 1 exports 1,000,000,001, in cell 6 of the table
     ∷ fileOf 2 (naming 41 0 1_000_000_001 ∷ []) ⊳ bytes "refused 3 6\n"
-    -- document 02, ticket 3: 50 of the worked table's exports as an adjustment item; and 1 over the limit of 16
-    ∷ fileOf 2 (adjusted entries) ⊳ bytes "sector demand production value imports\n1 625 999 599 249\n2 1280 1999 999 359\nrounds 9\n"
+    -- document 02, ticket 3: the worked table with an adjustment item; and exports of 1,000,000,000 with an item of 1
+    ∷ fileOf 2 (adjusted entries) ⊳ bytes "sector demand production value imports\n1 650 999 599 299\n2 1325 1999 999 449\nrounds 8\n"
     ∷ fileOf 2 (naming 46 1 1 ∷ naming 41 1 1_000_000_000 ∷ []) ⊳ bytes "refused 16 1\n"
     -- a table of one sector and zeros
     ∷ fileOf 1 [] ⊳ bytes "sector demand production value imports\n1 0 0 0 0\nrounds 1\n"

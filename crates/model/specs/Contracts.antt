@@ -19,6 +19,15 @@ use Rattle.model.specs.Writer.{tableEntries, written, fileBytes, writerR
 use Rattle.model.specs.Page.{pageLimit, pageReport, pageBytes}
 use Rattle.model.specs.Unadjusted.{NoAdjustment, Unadjusted, withoutAdjustment, unadjustedReport, unadjustedDemands, unadjustedPage}
 
+-- Sheets from a table t with F, E, M, V and X, by document 01's own formulas, in which there is no G
+pub record DerivedUnadjusted (t : Table) (a₀ v₀ m₀ d₀ f₀ : Cells) (r : Report) (a v m d f : Cells) : Type 0 where
+  pub answer : r ≡ unadjustedReport t (length a₀ ∷ length d₀ ∷ []) (length v₀ ∷ length m₀ ∷ length f₀ ∷ [])
+  pub inputs : a ≡ output r (length a₀) (inputCoefficients t)
+  pub values : v ≡ output r (length v₀) (valueAddedCoefficients t)
+  pub imports : m ≡ output r (length m₀) (importCoefficients t)
+  pub domestic : d ≡ output r (length d₀) (domesticCoefficients t)
+  pub demands : f ≡ output r (length f₀) (unadjustedDemands t)
+
 -- Sheets from a table t: a, v, m, d and f
 pub record Derived (t : Table) (a₀ v₀ m₀ d₀ f₀ : Cells) (r : Report) (a v m d f : Cells) : Type 0 where
   pub answer : r ≡ coefficientsReport t (length a₀ ∷ length d₀ ∷ []) (length v₀ ∷ length m₀ ∷ length f₀ ∷ [])
@@ -29,10 +38,8 @@ pub record Derived (t : Table) (a₀ v₀ m₀ d₀ f₀ : Cells) (r : Report) (
   pub demands : f ≡ output r (length f₀) (domesticDemands t)
   -- document 02, ticket 3: with G too, f is within the limit of question 8
   pub small : r .accepted ≡ true → (i : ℕ) → i < t .sectors → cell f i ≤ demandLimit
-  -- and where G is 0, answer and f are those of document 01's own formulas
-  pub unadjusted : NoAdjustment t
-      → (r ≡ unadjustedReport (withoutAdjustment t) (length a₀ ∷ length d₀ ∷ []) (length v₀ ∷ length m₀ ∷ length f₀ ∷ []))
-      × (f ≡ output r (length f₀) (unadjustedDemands (withoutAdjustment t)))
+  -- and where G is 0, answer and sheets are those of document 01's own formulas
+  pub unadjusted : NoAdjustment t → DerivedUnadjusted (withoutAdjustment t) a₀ v₀ m₀ d₀ f₀ r a v m d f
 
 -- Production from a demand f for domestic goods. Demand 3 is `distinct` and `accurate`: an accepted production differs from that of every other
 -- demand, and only from those; and against every exact balance it is nowhere too high, and all sectors together lack less than 20 × n

@@ -142,14 +142,14 @@ fn columns() {
     );
 }
 
-// The worked table with an adjustment item of 50 in place of as many exports, and with one over its limit.
+// The worked table with an adjustment item and as much more imports, and with an item over its limit.
 fn adjusted() {
     sheets(
         b"adjustment",
         2,
         [100, 400, 300, 600],
-        [500, 900, 200, 560, 250, 360, 600, 1000, 1000, 2000],
-        [50, 0],
+        [500, 900, 250, 560, 300, 450, 600, 1000, 1000, 2000],
+        [50, 90],
     );
     sheets(
         b"adjustment over",

@@ -87,6 +87,7 @@ module _ (n : ℕ) (x demand abroad bought value made item : List ℕ) where
       → a ≡ output r (length a₀) (inputCoefficients t) → v ≡ output r (length v₀) (valueAddedCoefficients t)
       → m ≡ output r (length m₀) (importCoefficients t) → d ≡ output r (length d₀) (domesticCoefficients t)
       → f ≡ output r (length f₀) (domesticDemands t) → Derived t a₀ v₀ m₀ d₀ f₀ r a v m d f
+  unfolding inputCoefficients inputCoefficient valueAddedCoefficients valueAddedCoefficient importCoefficients importCoefficient domesticCoefficients domesticCoefficient
   derived {a₀} {v₀} {m₀} {d₀} {f₀} {a} {v} {m} {d} {f} {r} answer inputs values imports domestic demands =
       record {
         answer = answer;
@@ -98,7 +99,15 @@ module _ (n : ℕ) (x demand abroad bought value made item : List ℕ) where
         small = λ ok i h.
             let A = table-accepted t matrices lent (sym (ap (λ (q : Report). q .accepted) answer) ∙ ok) in
             subst (λ (l : List ℕ). cell l i ≤ demandLimit) (sym (demands ∙ output-given r (length f₀) (domesticDemands t) ok)) (demands-small t matrices lent A i h);
-        unadjusted = λ none. (answer ∙ report-of item none, demands ∙ ap (output r (length f₀)) (demands-of item none));
+        unadjusted = λ none.
+            record {
+              answer = answer ∙ report-of item none;
+              inputs = inputs;
+              values = values;
+              imports = imports;
+              domestic = domestic;
+              demands = demands ∙ ap (output r (length f₀)) (demands-of item none);
+            };
       }
     where
       matrices : List ℕ
