@@ -8,16 +8,16 @@ use mathlib.Core.List.{List, [], _∷_, map, reverse}
 use Prim.Native.Nat.{ℕ, _*_, _≤_, _<_}
 use lib.ListN.{length, getD, take, replicate}
 use Rattle.model.specs.Numbers.{Cells, cell, at, transposed}
-use Rattle.model.specs.Table.{Table, tableOf, sectorLimit}
+use Rattle.model.specs.Table.{Table, tableOf}
 use Rattle.model.specs.Bytes.{Bytes, padded}
 use Rattle.model.specs.Rounds.{settled, Settles, impliedDemand, inducedValueAdded, inducedImports, inverse, dispersion}
 use Rattle.model.specs.Checks.{Report, accepts, verdict, output, reportRead, roundsOf, sectorsOf, bytesOf, tableAmounts, demandLimit}
 use Rattle.model.specs.Calls.{coefficientsReport, inputCoefficients, valueAddedCoefficients, importCoefficients, domesticCoefficients, domesticDemands, productionReport, priceReport, impliedReport, inducedReport, inverseReport}
 use Rattle.model.specs.Promises.{Distinguishes, Accurate, AccuratePrices, Returns, NotAbove}
-use Rattle.model.specs.File.{Entry, Reading, reading, called, answerOf, flowsRead, columnRead, columnWord, fileLimit, tableNamed}
+use Rattle.model.specs.File.{Entry, Reading, reading, called, answerOf, flowsRead, columnRead, columnWord, fileLimit}
 use Rattle.model.specs.Writer.{tableEntries, written, fileBytes, writerReport, InForm, returned}
 use Rattle.model.specs.Page.{pageLimit, pageReport, pageBytes}
-use Rattle.model.specs.Unadjusted.{NoAdjustment, Unadjusted, withoutAdjustment, unadjustedReport, unadjustedDemands, unadjustedPage}
+use Rattle.model.specs.Unadjusted.{NoAdjustment, withoutAdjustment, unadjustedReport, unadjustedDemands, WithoutKind10, unadjustedReading, unadjustedFilePage}
 
 -- Sheets from a table t with F, E, M, V and X, by document 01's own formulas, in which there is no G
 pub record DerivedUnadjusted (t : Table) (a₀ v₀ m₀ d₀ f₀ : Cells) (r : Report) (a v m d f : Cells) : Type 0 where
@@ -37,7 +37,7 @@ pub record Derived (t : Table) (a₀ v₀ m₀ d₀ f₀ : Cells) (r : Report) (
   pub domestic : d ≡ output r (length d₀) (domesticCoefficients t)
   pub demands : f ≡ output r (length f₀) (domesticDemands t)
   -- document 02, ticket 3: with G too, f is within the limit of question 8
-  pub small : r .accepted ≡ true → (i : ℕ) → i < t .sectors → cell f i ≤ demandLimit
+  pub withinLimit : r .accepted ≡ true → (i : ℕ) → i < t .sectors → cell f i ≤ demandLimit
   -- and where G is 0, answer and sheets are those of document 01's own formulas
   pub unadjusted : NoAdjustment t → DerivedUnadjusted (withoutAdjustment t) a₀ v₀ m₀ d₀ f₀ r a v m d f
 
@@ -130,8 +130,8 @@ pub record FileRead (file : Bytes) (s₀ : Slices) (marks₀ : Cells) (r : Repor
   pub answer : r ≡ reportRead (answerOf (readingInto file s₀ marks₀))
   pub delivered : Delivered (readingInto file s₀ marks₀) s₀ s
   pub beyond : Beyond (sectorsOf r) s
-  -- document 02, ticket 3: "A file without kind 10 means G = 0"
-  pub unadjusted : (n : ℕ) (es : List Entry) → readingInto file s₀ marks₀ ≡ Reading.table n es → Unadjusted es → s .adjustment ≡ replicate sectorLimit 0
+  -- document 02, ticket 3: "A file without kind 10 means G = 0", and is read as by document 01's own reader
+  pub unadjusted : WithoutKind10 file → (s .adjustment ≡ replicate (length (s₀ .adjustment)) 0) × (reading file ≡ unadjustedReading file)
   pub cleared : marks ≡ replicate (length marks₀) 0
 
 -- the table in slices, with the rises as its last column
@@ -165,6 +165,5 @@ pub record FileWritten (n : ℕ) (s : Slices) (file₀ : Bytes) (r : Report) (fi
 pub record PagePrinted (file out₀ : Bytes) (r : Report) (out : Bytes) : Type 0 where
   pub answer : r ≡ pageReport (length out₀) file
   pub outputs : out ≡ output r (length out₀) (pageBytes file)
-  -- document 02, ticket 3: a file without kind 10 "keeps its results", by document 01's own formulas
-  pub unadjusted : (n : ℕ) (es : List Entry) → reading file ≡ Reading.table n es → Unadjusted es
-      → pageBytes file ≡ padded pageLimit (unadjustedPage (tableNamed 5 n es))
+  -- document 02, ticket 3: a file without kind 10 "keeps its results", by document 01's own reader and formulas
+  pub unadjusted : WithoutKind10 file → pageBytes file ≡ padded pageLimit (unadjustedFilePage file)

@@ -133,10 +133,10 @@ pub data Reading : Type 0 where
   table : ℕ → List Entry → Reading
 
 -- a question: where its answer is no, its number at a place; else what follows
-abbrev require : (yes? : Bool) (number place : ℕ) → Reading → Reading
+abbrev pub require : (yes? : Bool) (number place : ℕ) → Reading → Reading
 require yes? number place onward = cond yes? onward (Reading.refused number place)
 
-abbrev refuseIf : (no? : Bool) (number place : ℕ) → Reading → Reading
+abbrev pub refuseIf : (no? : Bool) (number place : ℕ) → Reading → Reading
 refuseIf no? number place onward = cond no? (Reading.refused number place) onward
 
 -- The records after the first, from an offset on, with the cells named so far. A record has at least one byte, so the file's length is steps

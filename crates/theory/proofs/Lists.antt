@@ -152,7 +152,7 @@ and-true false b e = absurd (false≢true e)
 pub from-one : (k n : ℕ) → leb 1 k && leb k n ≡ true → (1 ≤ k) × (k ≤ n)
 from-one k n e = let p = and-true (leb 1 k) (leb k n) e in (leb-true 1 k (p .0), leb-true k n (p .1))
 
-and-last-false : (b : Bool) → b && false ≡ false
+pub and-last-false : (b : Bool) → b && false ≡ false
 and-last-false true = refl
 and-last-false false = refl
 

@@ -4,15 +4,14 @@ use mathlib.Core.List.{List, [], _∷_}
 use mathlib.Core.Path.{_≡_, refl, sym, ap, _∙_}
 use Prim.Native.Nat.{ℕ, zero, suc, _+_, _*_, _≤_, _<_, zero-le}
 use native.Mathlib.Nat.{lt-of-lt-of-le, ne-of-lt}
-use borrow.Author.Tests.{ltb-true, ne-eqb}
+use borrow.Author.Tests.{ltb-true}
 use lib.Dec.{eqb, ltb, lit≤}
-use lib.ListN.{length, getD, set, replicate}
+use lib.ListN.{getD, set}
 use lib.Seq.{getD-set-other}
 use Rattle.model.specs.Numbers.{cell}
 use Rattle.model.specs.Table.{sectorLimit, sheetLimit}
 use Rattle.model.specs.Checks.{reportRead, sectorsOf}
 use Rattle.model.specs.File.{Entry, Reading, reading, fits, called, answerOf, flowsOf, columnOf, flowsRead, columnRead, columnWord}
-use Rattle.model.specs.Unadjusted.{Unadjusted}
 use Rattle.model.specs.Contracts.{Slices, columnsOf, readingInto, Delivered, Beyond}
 use Rattle.theory_files.specs.Files.{inputLimit}
 use Rattle.theory.proofs.Sums.{cell-in}
@@ -103,13 +102,3 @@ beyond file s₀ marks₀ s d =
 
     column : (c len : ℕ) {l : List ℕ} → l ≡ columnRead (columnWord c) len o → Zero (told o) l
     column c len e = same e (column-left (columnWord c) len inputLimit o a)
-
--- ---- "A file without kind 10 means G = 0"
--- named cells without an adjustment item leave that column 0
-pub item-zero : (es : List Entry) → Unadjusted es → columnOf (columnWord 5) es ≡ replicate sectorLimit 0
-item-zero [] none = refl
-item-zero (e ∷ es) none = rw (ne-eqb (e .word) (columnWord 5) (none .0)) (item-zero es (none .1))
-
-pub no-item : (file : List ℕ) (s₀ : Slices) (marks₀ : List ℕ) (s : Slices) → Delivered (readingInto file s₀ marks₀) s₀ s
-    → (n : ℕ) (es : List Entry) → readingInto file s₀ marks₀ ≡ Reading.table n es → Unadjusted es → s .adjustment ≡ replicate sectorLimit 0
-no-item file s₀ marks₀ s d n es e none = d .adjustment ∙ ap (columnRead (columnWord 5) (length (s₀ .adjustment))) e ∙ item-zero es none

@@ -91,7 +91,7 @@ column-size k h = eqb-true _ _ (first-before (length columnKinds) (λ i. eqb (ce
 column-word : (k : ℕ) → k < length columnKinds → cell columnWords (cell columnKinds k) ≡ sectorLimit + k
 column-word k h = eqb-true _ _ (first-before (length columnKinds) (λ i. eqb (cell columnWords (cell columnKinds i)) (sectorLimit + i)) k h)
 
-unlike : (b : Bool) → cond b false true ≡ true → b ≡ false
+pub unlike : (b : Bool) → cond b false true ≡ true → b ≡ false
 unlike false e = refl
 unlike true e = absurd (false≢true e)
 

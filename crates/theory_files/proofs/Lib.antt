@@ -9,4 +9,5 @@ pub mod Prefixes
 pub mod Readings
 pub mod Marks
 pub mod Beyond
+pub mod Unadjusted
 pub mod Decoding

@@ -96,7 +96,7 @@ module _ (n : ℕ) (x demand abroad bought value made item : List ℕ) where
         imports = imports;
         domestic = domestic;
         demands = demands;
-        small = λ ok i h.
+        withinLimit = λ ok i h.
             let A = table-accepted t matrices lent (sym (ap (λ (q : Report). q .accepted) answer) ∙ ok) in
             subst (λ (l : List ℕ). cell l i ≤ demandLimit) (sym (demands ∙ output-given r (length f₀) (domesticDemands t) ok)) (demands-small t matrices lent A i h);
         unadjusted = λ none.

@@ -2,7 +2,8 @@
 use mathlib.Core.Path.{refl, ap}
 use borrow.Author.Needs.{needs}
 use Rattle.model.specs.Checks.{reportRead}
-use Rattle.theory_files.proofs.Beyond.{beyond, no-item}
+use Rattle.theory_files.proofs.Beyond.{beyond}
+use Rattle.theory_files.proofs.Unadjusted.{no-item}
 use Rattle.file_reader.proofs.read_table.Statement.{statement}
 use Rattle.file_reader.proofs.read_table.Tie as tie
 
