@@ -8,13 +8,13 @@ use Prim.Native.Nat.{ℕ, zero, suc, _+_, _*_, _-_, _≤_, _<_}
 use native.Mathlib.Omega.{arith}
 use native.Mathlib.Nat.{not-suc-le-zero}
 use borrow.Author.Tests.{eq-eqb, le-leb}
-use lib.Dec.{eqb}
-use lib.ListN.{length, take, replicate, length-append, length-replicate, length-reverse, List·getD-map}
+use lib.Dec.{eqb, lit≤}
+use lib.ListN.{length, take, replicate, getD-replicate, length-append, length-replicate, length-reverse, List·getD-map}
 use lib.Seq.{take-at}
 use Rattle.model.specs.Numbers.{cell}
-use Rattle.model.specs.Table.{Table, tableOf, sectorLimit}
+use Rattle.model.specs.Table.{Table, tableOf, sectorLimit, sheetLimit}
 use Rattle.model.specs.Checks.{Report, accepts, output, reportRead, bytesOf, tableAmounts}
-use Rattle.model.specs.File.{Entry, encodeAll, fileOf, fileLimit, columnKinds, Reading, reading, tableNamed, fits, called, answerOf}
+use Rattle.model.specs.File.{Entry, encode, encodeAll, fileOf, fileLimit, columnKinds, Reading, reading, tableNamed, fits, called, answerOf}
 use Rattle.model.specs.Writer.{tableEntries, written, fileBytes, writerChecks, writerReport, Ascending, InForm, returned}
 use Rattle.model.specs.Contracts.{Slices, columnsOf, readingInto, Delivered, FileRead, tableFrom, Archived, FileWritten}
 use Rattle.theory.proofs.Lists.{from-one, all-passed}
@@ -250,3 +250,24 @@ bytes-follow t f h = bytes-read t f ∙ follow (fileLimit - length (written t)) 
     follow : (k : ℕ) → 0 < k → ended (t .sectors) (reverse (tableEntries t)) (length (written t)) (replicate k 0) ≡ Reading.refused 15 (length (written t))
     follow zero l = absurd (not-suc-le-zero l)
     follow (suc k) l = refl
+
+-- ---- the longest file
+-- a table of 40 sectors in which no cell is 0
+abbrev fullTable : Table
+fullTable = tableOf sectorLimit (replicate sheetLimit 1) (replicate (length columnKinds) (replicate sectorLimit 1))
+
+full-fit : Fit fullTable
+full-fit = record {
+  sizes = record {
+    some = lit≤ tt;
+    few = lit≤ tt;
+    flows = refl;
+    columns = λ c h. ap length (getD-replicate (length columnKinds) c (replicate sectorLimit 1) [] h);
+  };
+  count = refl;
+}
+
+-- Theorem, for the reader: the bound is reached, and so 12,883 bytes are "now the longest accepted file"
+pub longest : (length (written fullTable) ≡ fileLimit) × (reading (written fullTable) ≡ Reading.table sectorLimit (reverse (tableEntries fullTable)))
+unfolding written tableEntries encode fileOf
+longest = (refl, written-read fullTable full-fit)
