@@ -4,13 +4,14 @@ use mathlib.Core.List.{List}
 use mathlib.Core.Path.{_≡_, refl, sym, ap, _∙_, subst⁻¹}
 use Prim.Native.Nat.{ℕ, _+_, _*_, _-_, _/_, _%_, _^_, _≤_, _<_}
 use native.Mathlib.Omega.{arith}
-use borrow.Author.Tests.{lt-leb, le-leb, leb-true, leb-false, ltb-true, ltb-false, eq-eqb, ne-eqb, eqb-true, eqb-false}
-use lib.Dec.{eqb, leb, ltb}
-use lib.ListN.{length, List·getD-eq-default}
+use borrow.Author.Tests.{lt-leb, le-leb, leb-true, leb-false, eq-eqb, ne-eqb, eqb-true, eqb-false}
+use lib.Dec.{eqb, leb}
+use lib.ListN.{length}
 use Rattle.model.specs.Numbers.{first, cell}
 use Rattle.model.specs.Table.{sectorLimit}
 use Rattle.model.specs.File.{Entry, recordLengths, columnWords, kindAt, isFlow, nextAt, wholeAt, insideAt, amountFrom, entryAt}
 use Rattle.theory.proofs.Lists.{first-before}
+use Rattle.theory_files.proofs.RecordKinds.{known-kind}
 use Rattle.file_records.specs.Bodies.{Body}
 
 -- what is computed of every kind holds of each
@@ -29,16 +30,9 @@ length-digit word k h right = eqb-true _ _ (each-kind (λ i. eqb (digit word i) 
 abbrev columnOnly : (word : ℕ) → ℕ → Bool
 columnOnly word i = cond (eqb (cell recordLengths i) 6) (eqb (sectorLimit + digit word i) (cell columnWords i)) true
 
-pub known-kind : (k : ℕ) → cell recordLengths k ≡ 6 → k < length recordLengths
-known-kind k e = go (ltb k (length recordLengths)) refl
-  where
-    go : (b : Bool) → ltb k (length recordLengths) ≡ b → k < length recordLengths
-    go true h = ltb-true k (length recordLengths) h
-    go false h = absurd (let none = List·getD-eq-default recordLengths 0 {n = k} (ltb-false k (length recordLengths) h) in omega arith)
-
 pub column-digit : (word k : ℕ) → cell recordLengths k ≡ 6 → first (length recordLengths) (columnOnly word) ≡ length recordLengths
     → sectorLimit + digit word k ≡ cell columnWords k
-column-digit word k e right = eqb-true _ _ (rw (eq-eqb (cell recordLengths k) 6 e) at (each-kind (columnOnly word) right k (known-kind k e)))
+column-digit word k e right = eqb-true _ _ (rw (eq-eqb (cell recordLengths k) 6 e) at (each-kind (columnOnly word) right k (known-kind k (omega arith))))
 
 -- a sector byte from 1 to n
 abbrev pub sector : ℕ → ℕ → Bool

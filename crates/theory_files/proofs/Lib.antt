@@ -2,6 +2,7 @@
 pub mod Encoding
 pub mod Files
 pub mod RecordKinds
+pub mod Questions
 pub mod Walks
 pub mod Counts
 pub mod Lengths

@@ -1,5 +1,5 @@
 -- A longer input is answered as its first 12,889 bytes are: the walk never gets further. Assumes nothing.
-use mathlib.Core.Bool.{Bool, true, false, _&&_, cond}
+use mathlib.Core.Bool.{Bool, true, false, _&&_}
 use mathlib.Core.List.{List, [], _∷_}
 use mathlib.Core.Path.{_≡_, refl, ap}
 use Prim.Native.Nat.{ℕ, zero, suc, _+_, _-_, _≤_, _<_}
@@ -11,10 +11,11 @@ use lib.ListN.{length, take}
 use lib.Seq.{length-take-le}
 use Rattle.model.specs.Numbers.{cell}
 use Rattle.model.specs.Table.{sectorLimit, fewSectors}
-use Rattle.model.specs.File.{Entry, recordLengths, amountFrom, kindAt, nextAt, wholeAt, insideAt, entryAt, namedBefore, Reading, walk, reading, fileLimit}
+use Rattle.model.specs.File.{Entry, recordLengths, amountFrom, kindAt, nextAt, wholeAt, insideAt, entryAt, namedBefore, walk, reading, fileLimit}
 use Rattle.model.specs.Page.{readingPage, page}
 use Rattle.theory_files.specs.Files.{inputLimit}
 use Rattle.theory.proofs.Lists.{first-before, and-true, from-one}
+use Rattle.theory_files.proofs.Questions.{both-unless, both-provided, both-either}
 use Rattle.theory_files.proofs.RecordKinds.{no-kind, body, taken}
 use Rattle.theory_files.proofs.Lengths.{weight, weight-most, offset-on}
 
@@ -33,15 +34,6 @@ record-most k = go (ltb k kinds) refl
     go : (b : Bool) → ltb k kinds ≡ b → cell recordLengths k ≤ 7
     go true e = leb-true _ _ (first-before kinds (λ i. leb (cell recordLengths i) 7) k (ltb-true k kinds e))
     go false e = rw (no-kind k (ltb-false k kinds e)) (omega arith)
-
--- a choice whose one side is the same wherever it is taken
-cond-then : (b : Bool) (x y z : Reading) → (b ≡ true → x ≡ y) → cond b x z ≡ cond b y z
-cond-then true x y z e = e refl
-cond-then false x y z e = refl
-
-cond-else : (b : Bool) (x y z : Reading) → (b ≡ false → x ≡ y) → cond b z x ≡ cond b z y
-cond-else true x y z e = refl
-cond-else false x y z e = e refl
 
 -- two inputs that agree below 12,889, and are at least as long
 module _ (s t : List ℕ) (same : (i : ℕ) → i < inputLimit → cell t i ≡ cell s i) (long : inputLimit ≤ length s) (long′ : inputLimit ≤ length t) where
@@ -85,11 +77,11 @@ module _ (s t : List ℕ) (same : (i : ℕ) → i < inputLimit → cell t i ≡ 
         ne-eqb (at + 1) (length t) (λ e. omega arith),
         ne-eqb (at + 1) (length s) (λ e. omega arith),
       )
-      (cond-then (wholeAt s at) _ _ _ (λ whole.
-      cond-else (eqb (kindAt s at) 1) _ _ _ (λ no-1.
-      cond-else (eqb (kindAt s at) 8) _ _ _ (λ no-8.
-      cond-then (insideAt s at n) _ _ _ (λ inside.
-      cond-else (namedBefore es (entryAt s at)) _ _ _ (λ fresh.
+      (both-provided _≡_ (wholeAt s at) _ _ 11 at refl (λ whole.
+      both-unless _≡_ (eqb (kindAt s at) 1) _ _ 12 at refl (λ no-1.
+      both-either _≡_ (eqb (kindAt s at) 8) _ _ _ _ (λ _. refl) (λ no-8.
+      both-provided _≡_ (insideAt s at n) _ _ 13 at refl (λ inside.
+      both-unless _≡_ (namedBefore es (entryAt s at)) _ _ 14 at refl (λ fresh.
       let here = taken s at whole no-1 no-8 n most inside in
       let some = body s at whole .0 in
       walk-same fuel fuel′ n (entryAt s at ∷ es) (nextAt s at) most (offset-on s es at most here fresh h) (omega arith) (omega arith)))))))
@@ -105,8 +97,8 @@ module _ (s t : List ℕ) (same : (i : ℕ) → i < inputLimit → cell t i ≡ 
         ne-eqb (length t) 0 (λ e. omega arith),
         ne-eqb (length s) 0 (λ e. omega arith),
       )
-      (cond-then (wholeAt s 0) _ _ _ (λ whole.
-      cond-then (eqb (kindAt s 0) 1 && fewSectors n) _ _ _ (λ sized.
+      (both-provided _≡_ (wholeAt s 0) _ _ 11 0 refl (λ _.
+      both-provided _≡_ (eqb (kindAt s 0) 1 && fewSectors n) _ _ 12 0 refl (λ sized.
       let few = from-one n sectorLimit (and-true (eqb (kindAt s 0) 1) (fewSectors n) sized .1) in
       walk-same (length t) (length s) n [] 2 (few .1) (omega arith) (omega arith) (omega arith))))
 

@@ -16,6 +16,14 @@ use Rattle.theory.proofs.Lists.{first-before, and-true, from-one}
 pub no-kind : (k : ℕ) → length recordLengths ≤ k → cell recordLengths k ≡ 0
 no-kind k h = List·getD-eq-default recordLengths 0 h
 
+-- so a kind with a body is one of them
+pub known-kind : (k : ℕ) → 1 ≤ cell recordLengths k → k < length recordLengths
+known-kind k some = go (ltb k (length recordLengths)) refl
+  where
+    go : (b : Bool) → ltb k (length recordLengths) ≡ b → k < length recordLengths
+    go true e = ltb-true k (length recordLengths) e
+    go false e = absurd (let none = no-kind k (ltb-false k (length recordLengths) e) in omega arith)
+
 -- what is known of the kind of a column
 record Column (k : ℕ) : Type 0 where
   size : cell recordLengths k ≡ 6
@@ -33,11 +41,8 @@ abbrev isOther : ℕ → Bool
 isOther k = eqb (cell recordLengths k) 0 || (eqb k 1 || (eqb k 2 || eqb k 8))
 
 column : (k : ℕ) → 1 ≤ cell recordLengths k → eqb k 1 ≡ false → eqb k 2 ≡ false → eqb k 8 ≡ false → Column k
-column k some no-1 no-2 no-8 = go (ltb k kinds) refl
+column k some no-1 no-2 no-8 = known (first-before (length recordLengths) (λ i. isOther i || isColumn i) k (known-kind k some))
   where
-    kinds : ℕ
-    kinds = length recordLengths
-
     other : isOther k ≡ false
     other = rw (ne-eqb (cell recordLengths k) 0 (λ e. omega (arith, some)), no-1, no-2, no-8) refl
 
@@ -47,12 +52,6 @@ column k some no-1 no-2 no-8 = go (ltb k kinds) refl
         let words = and-true _ _ (parts .1) in
         let last = and-true _ _ (words .1) in
         record { size = eqb-true _ _ (parts .0); low = leb-true _ _ (words .0); high = ltb-true _ _ (last .0); back = eqb-true _ _ (last .1) }
-
-    go : (b : Bool) → ltb k kinds ≡ b → Column k
-    go true e = known (first-before kinds (λ i. isOther i || isColumn i) k (ltb-true k kinds e))
-    go false e =
-        let none = no-kind k (ltb-false k kinds e) in
-        absurd (omega (arith, some))
 
 -- a column's place among the kinds, and from there the column again
 pub place-back : (c : ℕ) → c < length columnKinds → (kindPlace c < length columnKinds) × (kindPlace (kindPlace c) ≡ c)

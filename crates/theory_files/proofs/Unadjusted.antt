@@ -14,7 +14,8 @@ use Rattle.model.specs.Unadjusted.{unadjustedWhole, unadjustedWalk, unadjustedR
 use Rattle.model.specs.Contracts.{Slices, columnsOf, readingInto, Delivered}
 use Rattle.theory.proofs.Lists.{first-before, and-true, and-last-false, from-one, each-equal}
 use Rattle.theory_files.proofs.Encoding.{made, unlike}
-use Rattle.theory_files.proofs.RecordKinds.{no-kind, body}
+use Rattle.theory_files.proofs.RecordKinds.{no-kind, known-kind, body}
+use Rattle.theory_files.proofs.Questions.{both-unless, both-provided, both-either}
 
 -- named cells none of which is of G, and a reading with such cells
 abbrev pub NoItem : List Entry → Type 0
@@ -75,36 +76,19 @@ module _ (s : List ℕ) (at : ℕ) where
       first : (1 ≤ cell s (at + 1)) × (cell s (at + 1) ≤ n)
       first = from-one (cell s (at + 1)) n (and-true _ _ inside .0)
 
-      known : kindAt s at < length recordLengths
-      known = split (ltb (kindAt s at) (length recordLengths)) refl
-        where
-          split : (b : Bool) → ltb (kindAt s at) (length recordLengths) ≡ b → kindAt s at < length recordLengths
-          split true h = ltb-true _ _ h
-          split false h = absurd (let none = no-kind (kindAt s at) (ltb-false _ _ h) in let some = body s at whole .0 in omega arith)
-
       go : (b : Bool)
           → cond b (made (cell s (at + 1) - 1) (cell s (at + 2) - 1) (amountFrom s (at + 3))) (made (cell columnWords (kindAt s at)) (cell s (at + 1) - 1) (amountFrom s (at + 2))) .word ≡ columnWord 5
           → ⊥
       go true e = let f = first in omega arith
-      go false e = eqb-false _ _ (unlike _ (each-other (kindAt s at) other known .1)) e
+      go false e = eqb-false _ _ (unlike _ (each-other (kindAt s at) other (known-kind (kindAt s at) (body s at whole .0)) .1)) e
 
 -- ---- both readers, record by record: what document 01's comes to, v, ours comes to, unless v is refused with 11 at a byte of 10
 module _ (s : List ℕ) where
   abbrev Same : Reading → Reading → Type 0
   Same w v = ((place : ℕ) → v ≡ Reading.refused 11 place → kindAt s place ≡ 10 → ⊥) → (w ≡ v) × Plain v
 
-  -- through a question that both ask
-  unless : (b : Bool) (x y : Reading) (number place : ℕ) → (b ≡ false → Same x y) → Same (cond b (Reading.refused number place) x) (cond b (Reading.refused number place) y)
-  unless true x y number place go = λ _. (refl, tt)
-  unless false x y number place go = go refl
-
-  provided : (b : Bool) (x y : Reading) (number place : ℕ) → (b ≡ true → Same x y) → Same (cond b x (Reading.refused number place)) (cond b y (Reading.refused number place))
-  provided true x y number place go = go refl
-  provided false x y number place go = λ _. (refl, tt)
-
-  either : (b : Bool) (x y u v : Reading) → (b ≡ true → Same x u) → (b ≡ false → Same y v) → Same (cond b x y) (cond b u v)
-  either true x y u v p q = p refl
-  either false x y u v p q = q refl
+  stop : {number place : ℕ} → Same (Reading.refused number place) (Reading.refused number place)
+  stop = λ _. (refl, tt)
 
   -- through question 11
   whole : (at : ℕ) (x y : Reading) → (wholeAt s at ≡ true → (kindAt s at ≡ 10 → ⊥) → Same x y)
@@ -115,29 +99,29 @@ module _ (s : List ℕ) where
       split true e = let kind = eqb-true (kindAt s at) 10 e in λ none. absurd (none at (rw (whole-none s at kind) refl) kind)
       split false e =
           let other = eqb-false (kindAt s at) 10 e in
-          rw (sym (whole-same s at other)) (provided (wholeAt s at) x y 11 at (λ w. go w other))
+          rw (sym (whole-same s at other)) (both-provided Same (wholeAt s at) x y 11 at stop (λ w. go w other))
 
   walk-same : (n : ℕ) → n ≤ sectorLimit → (fuel : ℕ) (es : List Entry) (at : ℕ) → NoItem es → Same (walk fuel s n es at) (unadjustedWalk fuel s n es at)
   unfolding walk unadjustedWalk
   walk-same n few zero es at none = λ _. (refl, tt)
   walk-same n few (suc fuel) es at none =
-      unless (leb (length s) at) _ _ 15 (length s) (λ _.
+      both-unless Same (leb (length s) at) _ _ 15 (length s) stop (λ _.
       whole at _ _ (λ w other.
-      unless (eqb (kindAt s at) 1) _ _ 12 at (λ _.
-      either (eqb (kindAt s at) 8) _ _ _ _
-      (λ _. provided (eqb (at + 1) (length s)) _ _ 15 (at + 1) (λ _ _. (refl, none)))
+      both-unless Same (eqb (kindAt s at) 1) _ _ 12 at stop (λ _.
+      both-either Same (eqb (kindAt s at) 8) _ _ _ _
+      (λ _. both-provided Same (eqb (at + 1) (length s)) _ _ 15 (at + 1) stop (λ _ _. (refl, none)))
       (λ _.
-      provided (insideAt s at n) _ _ 13 at (λ inside.
-      unless (namedBefore es (entryAt s at)) _ _ 14 at (λ _.
+      both-provided Same (insideAt s at n) _ _ 13 at stop (λ inside.
+      both-unless Same (namedBefore es (entryAt s at)) _ _ 14 at stop (λ _.
       walk-same n few fuel (entryAt s at ∷ es) (nextAt s at) (other-word s at n few other w inside, none)))))))
 
   -- Theorem, for the reader: a file without kind 10 is read as document 01's reader reads it, and names no cell of G
   pub reading-same : WithoutKind10 s → (reading s ≡ unadjustedReading s) × Plain (unadjustedReading s)
   unfolding reading unadjustedReading
   reading-same =
-      unless (eqb (length s) 0) _ _ 15 0 (λ _.
+      both-unless Same (eqb (length s) 0) _ _ 15 0 stop (λ _.
       whole 0 _ _ (λ _ _.
-      provided (eqb (kindAt s 0) 1 && fewSectors (cell s 1)) _ _ 12 0 (λ sized.
+      both-provided Same (eqb (kindAt s 0) 1 && fewSectors (cell s 1)) _ _ 12 0 stop (λ sized.
       walk-same (cell s 1) (from-one (cell s 1) sectorLimit (and-true (eqb (kindAt s 0) 1) (fewSectors (cell s 1)) sized .1) .1) (length s) [] 2 tt)))
 
 -- ---- so the reader leaves 0 in the column of G

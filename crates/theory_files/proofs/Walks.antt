@@ -1,7 +1,7 @@
 -- What the walk keeps from record to record tells what a reading may be: one induction for all that is said of readings. Assumes nothing.
-use mathlib.Core.Bool.{Bool, true, false, _&&_, cond}
+use mathlib.Core.Bool.{true, false, _&&_}
 use mathlib.Core.List.{List, [], _∷_}
-use mathlib.Core.Path.{_≡_, refl, subst}
+use mathlib.Core.Path.{_≡_, subst}
 use Prim.Native.Nat.{ℕ, zero, suc, _+_, _≤_}
 use native.Mathlib.Nat.{le-refl}
 use native.Mathlib.Omega.{arith}
@@ -13,20 +13,7 @@ use Rattle.model.specs.Table.{sectorLimit, fewSectors}
 use Rattle.model.specs.File.{Entry, kindAt, nextAt, wholeAt, insideAt, entryAt, namedBefore, Reading, walk, reading}
 use Rattle.theory.proofs.Lists.{and-true, from-one}
 use Rattle.theory_files.proofs.RecordKinds.{Taken, taken}
-
--- What holds of a refusal and of what follows holds of a question: of one that refuses where its test passes, and of one that refuses where it fails
-module _ (P : Reading → Type 0) where
-  unless : (b : Bool) (x : Reading) (number place : ℕ) → P (Reading.refused number place) → (b ≡ false → P x) → P (cond b (Reading.refused number place) x)
-  unless true x number place r go = r
-  unless false x number place r go = go refl
-
-  provided : (b : Bool) (x : Reading) (number place : ℕ) → P (Reading.refused number place) → (b ≡ true → P x) → P (cond b x (Reading.refused number place))
-  provided true x number place r go = go refl
-  provided false x number place r go = r
-
-  either : (b : Bool) (x y : Reading) → (b ≡ true → P x) → (b ≡ false → P y) → P (cond b x y)
-  either true x y p q = p refl
-  either false x y p q = q refl
+use Rattle.theory_files.proofs.Questions.{unless, provided, either}
 
 -- a first record that is taken
 pub record First (s : List ℕ) (n : ℕ) : Type 0 where

@@ -4,12 +4,13 @@ use native.Mathlib.Omega.{arith}
 use borrow.Author.Needs.{needs}
 use Rattle.model.specs.Numbers.{cell}
 use Rattle.model.specs.File.{recordLengths, columnWords}
-use Rattle.file_records.proofs.RecordLaws.{known-kind, column-digit}
+use Rattle.theory_files.proofs.RecordKinds.{known-kind}
+use Rattle.file_records.proofs.RecordLaws.{column-digit}
 use Rattle.file_records.proofs.column_word.Statement.{statement}
 use Rattle.file_records.proofs.column_word.Tie as tie
 
 shr-result : tie.Need-shr-result
-shr-result c = omega (arith, known-kind (c .before .args .kind) (c .before .pre), c .wide .ensures .0)
+shr-result c = omega (arith, known-kind (c .before .args .kind) (omega (arith, c .before .pre)), c .wide .ensures .0)
 
 returns : tie.Need-returns
 returns c = column-digit _ _ (ap (cell recordLengths) (c .wide .ensures .0) ∙ c .before .pre) refl ∙ ap (cell columnWords) (c .wide .ensures .0)
