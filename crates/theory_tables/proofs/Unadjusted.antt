@@ -21,35 +21,35 @@ use Rattle.theory.proofs.Verdicts.{AllPass, passed-after, output-given}
 use Rattle.theory_tables.proofs.Tables.{bounded-cell}
 use Rattle.theory_tables.proofs.Prepared.{table-accepted, demands-small}
 
-module _ (n : ℕ) (x demand abroad bought value made : List ℕ) where
+module _ (n : ℕ) (x finalDemand exports imports valueAdded production : List ℕ) where
   abbrev pub zeros : List ℕ
   zeros = replicate n 0
 
   -- the table with an adjustment item of 0 in every sector, and as document 01 has it
   abbrev pub adjusted : Table
-  adjusted = tableOf n x (demand ∷ abroad ∷ bought ∷ value ∷ made ∷ zeros ∷ [])
+  adjusted = tableOf n x (finalDemand ∷ exports ∷ imports ∷ valueAdded ∷ production ∷ zeros ∷ [])
 
   abbrev pub plain : Table
-  plain = tableOf n x (demand ∷ abroad ∷ bought ∷ value ∷ made ∷ [])
+  plain = tableOf n x (finalDemand ∷ exports ∷ imports ∷ valueAdded ∷ production ∷ [])
 
-  exports-alone : (i : ℕ) → adjustedExports adjusted i ≡ cell abroad i
-  exports-alone i = ap (λ (g : ℕ). cell abroad i + g) (cell-zeros n i) ∙ add-zero (cell abroad i)
+  exports-alone : (i : ℕ) → adjustedExports adjusted i ≡ cell exports i
+  exports-alone i = ap (λ (g : ℕ). cell exports i + g) (cell-zeros n i) ∙ add-zero (cell exports i)
 
   -- f, by document 01
   pub unadjusted-demands : domesticDemands adjusted ≡ unadjustedDemands plain
   unfolding domesticDemands domesticDemand unadjustedDemands importCoefficient
-  unadjusted-demands = tabulate-cong n (λ i _. ap (λ (e : ℕ). portion (one - importCoefficient plain i) (cell demand i) + e) (exports-alone i))
+  unadjusted-demands = tabulate-cong n (λ i _. ap (λ (e : ℕ). portion (one - importCoefficient plain i) (cell finalDemand i) + e) (exports-alone i))
 
   -- the questions: that of G among 3 and 16 pass where those before them do, and 5 is that of document 01
   module _ (matrices lent : List ℕ) where
     abbrev before : List Check
-    before = size n ∷ lengths n (length x ∷ matrices) (map length (demand ∷ abroad ∷ bought ∷ value ∷ made ∷ []) ++ lent) ∷ tableAmounts plain
+    before = size n ∷ lengths n (length x ∷ matrices) (map length (finalDemand ∷ exports ∷ imports ∷ valueAdded ∷ production ∷ []) ++ lent) ∷ tableAmounts plain
 
     abbrev after : Check → List Check
     after rows = columnBalances plain ∷ rows ∷ importsCovered plain ∷ columnSums n (at n (domesticCoefficients plain)) ∷ []
 
     abbrev amounts : Check
-    amounts = bounded 3 (0 + length x + length demand + length abroad + length bought + length value + length made) amountLimit zeros
+    amounts = bounded 3 (0 + length x + length finalDemand + length exports + length imports + length valueAdded + length production) amountLimit zeros
 
     zeros-pass : (i : ℕ) → i < length zeros → leb (cell zeros i) amountLimit ≡ true
     zeros-pass i _ = ap (λ (g : ℕ). leb g amountLimit) (cell-zeros n i) ∙ le-leb 0 amountLimit zero-le
@@ -57,10 +57,10 @@ module _ (n : ℕ) (x demand abroad bought value made : List ℕ) where
     exports-pass : AllPass before → (i : ℕ) → i < n → leb (adjustedExports adjusted i) amountLimit ≡ true
     exports-pass p i _ =
         ap (λ (e : ℕ). leb e amountLimit) (exports-alone i)
-        ∙ le-leb (cell abroad i) amountLimit (bounded-cell 0 amountLimit abroad (p .1 .1 .1 .1 .0) i)
+        ∙ le-leb (cell exports i) amountLimit (bounded-cell 0 amountLimit exports (p .1 .1 .1 .1 .0) i)
 
     rows-same : rowBalances adjusted ≡ unadjustedRows plain
-    rows-same = ap (each 5 n) (fun-ext (λ i. ap (λ (e : ℕ). eqb (need plain i + e) (cell made i + cell bought i)) (exports-alone i)))
+    rows-same = ap (each 5 n) (fun-ext (λ i. ap (λ (e : ℕ). eqb (need plain i + e) (cell production i + cell imports i)) (exports-alone i)))
 
     pub unadjusted-report : coefficientsReport adjusted matrices lent ≡ unadjustedReport plain matrices lent
     unfolding coefficientsReport unadjustedReport domesticCoefficients domesticCoefficient inputCoefficient importCoefficient
@@ -78,9 +78,9 @@ module _ (n : ℕ) (x demand abroad bought value made : List ℕ) where
       (unadjusted-report (n * n ∷ n * n ∷ []) (n ∷ n ∷ n ∷ []))
 
 -- ---- what the call promises of its answer and of what it leaves in its outputs
-module _ (n : ℕ) (x demand abroad bought value made item : List ℕ) where
+module _ (n : ℕ) (x finalDemand exports imports valueAdded production adjustment : List ℕ) where
   abbrev t : Table
-  t = tableOf n x (demand ∷ abroad ∷ bought ∷ value ∷ made ∷ item ∷ [])
+  t = tableOf n x (finalDemand ∷ exports ∷ imports ∷ valueAdded ∷ production ∷ adjustment ∷ [])
 
   pub derived : {a₀ v₀ m₀ d₀ f₀ a v m d f : List ℕ} {r : Report}
       → r ≡ coefficientsReport t (length a₀ ∷ length d₀ ∷ []) (length v₀ ∷ length m₀ ∷ length f₀ ∷ [])
@@ -88,25 +88,25 @@ module _ (n : ℕ) (x demand abroad bought value made item : List ℕ) where
       → m ≡ output r (length m₀) (importCoefficients t) → d ≡ output r (length d₀) (domesticCoefficients t)
       → f ≡ output r (length f₀) (domesticDemands t) → Derived t a₀ v₀ m₀ d₀ f₀ r a v m d f
   unfolding inputCoefficients inputCoefficient valueAddedCoefficients valueAddedCoefficient importCoefficients importCoefficient domesticCoefficients domesticCoefficient
-  derived {a₀} {v₀} {m₀} {d₀} {f₀} {a} {v} {m} {d} {f} {r} answer inputs values imports domestic demands =
+  derived {a₀} {v₀} {m₀} {d₀} {f₀} {a} {v} {m} {d} {f} {r} answer is-a is-v is-m is-d is-f =
       record {
         answer = answer;
-        inputs = inputs;
-        values = values;
-        imports = imports;
-        domestic = domestic;
-        demands = demands;
+        inputs = is-a;
+        values = is-v;
+        imports = is-m;
+        domestic = is-d;
+        demands = is-f;
         withinLimit = λ ok i h.
             let A = table-accepted t matrices lent (sym (ap (λ (q : Report). q .accepted) answer) ∙ ok) in
-            subst (λ (l : List ℕ). cell l i ≤ demandLimit) (sym (demands ∙ output-given r (length f₀) (domesticDemands t) ok)) (demands-small t matrices lent A i h);
+            subst (λ (l : List ℕ). cell l i ≤ demandLimit) (sym (is-f ∙ output-given r (length f₀) (domesticDemands t) ok)) (demands-small t matrices lent A i h);
         unadjusted = λ none.
             record {
-              answer = answer ∙ report-of item none;
-              inputs = inputs;
-              values = values;
-              imports = imports;
-              domestic = domestic;
-              demands = demands ∙ ap (output r (length f₀)) (demands-of item none);
+              answer = answer ∙ ap (λ (g : List ℕ). coefficientsReport (table g) matrices lent) none ∙ unadjusted-report n x finalDemand exports imports valueAdded production matrices lent;
+              inputs = is-a;
+              values = is-v;
+              imports = is-m;
+              domestic = is-d;
+              demands = is-f ∙ ap (output r (length f₀)) (ap (λ (g : List ℕ). domesticDemands (table g)) none ∙ unadjusted-demands n x finalDemand exports imports valueAdded production);
             };
       }
     where
@@ -117,10 +117,4 @@ module _ (n : ℕ) (x demand abroad bought value made item : List ℕ) where
       lent = length v₀ ∷ length m₀ ∷ length f₀ ∷ []
 
       table : List ℕ → Table
-      table g = tableOf n x (demand ∷ abroad ∷ bought ∷ value ∷ made ∷ g ∷ [])
-
-      report-of : (g : List ℕ) → g ≡ replicate n 0 → coefficientsReport (table g) matrices lent ≡ unadjustedReport (plain n x demand abroad bought value made) matrices lent
-      report-of g none = ap (λ (l : List ℕ). coefficientsReport (table l) matrices lent) none ∙ unadjusted-report n x demand abroad bought value made matrices lent
-
-      demands-of : (g : List ℕ) → g ≡ replicate n 0 → domesticDemands (table g) ≡ unadjustedDemands (plain n x demand abroad bought value made)
-      demands-of g none = ap (λ (l : List ℕ). domesticDemands (table l)) none ∙ unadjusted-demands n x demand abroad bought value made
+      table g = tableOf n x (finalDemand ∷ exports ∷ imports ∷ valueAdded ∷ production ∷ g ∷ [])
