@@ -8,7 +8,7 @@ use lib.ListN.{length, take, replicate}
 use Rattle.model.specs.Numbers.{setPositions}
 use Rattle.model.specs.Table.{Table, tableOf}
 use Rattle.model.specs.Checks.{accepts, refuses}
-use Rattle.model.specs.File.{Entry, columnKinds, encode, fileOf, wholeAt, insideAt, entryAt, Reading, walk, reading, flowsOf, columnOf, fileLimit, markTotal}
+use Rattle.model.specs.File.{Entry, columnKinds, encode, fileOf, wholeAt, insideAt, entryAt, Reading, walkWith, reading, readingWith, flowsOf, columnOf, fileLimit, markTotal}
 use Rattle.model.specs.Writer.{tableEntries, written, writerReport, returned}
 
 abbrev pub naming : ℕ → ℕ → ℕ → Entry
@@ -31,7 +31,7 @@ pub worked-file :
     × (reading (fileOf 2 entries) ≡ Reading.table 2 (reverse entries))
     × _≡_ {A = List ℕ} (take 5 (flowsOf 2 (reverse entries))) (100 ∷ 400 ∷ 300 ∷ 600 ∷ 0 ∷ [])
     × _≡_ {A = List ℕ} (take 3 (columnOf 44 (reverse entries))) (1000 ∷ 2000 ∷ 0 ∷ [])
-unfolding encode fileOf wholeAt insideAt entryAt walk reading
+unfolding encode fileOf wholeAt insideAt entryAt walkWith readingWith
 worked-file = (refl, refl, refl, refl)
 
 -- ---- the marks
@@ -61,7 +61,7 @@ pub worked-written :
     (written (workedTable zeros zeros) ≡ fileOf 2 entries)
     × (returned (reading (written (workedTable zeros zeros))) ≡ workedTable zeros zeros)
     × (writerReport (workedTable zeros zeros) fileLimit ≡ accepts (91 ∷ []))
-unfolding encode fileOf wholeAt insideAt entryAt walk reading tableEntries written writerReport
+unfolding encode fileOf wholeAt insideAt entryAt walkWith readingWith tableEntries written writerReport
 worked-written = (refl, refl, refl)
 
 -- a table of one sector in its bytes: only x, the adjustment item and the rise are not 0, and the item is written after the rise
@@ -132,5 +132,5 @@ rows =
 
 -- Theorem, for the reader: every file above is read as the paper states it
 pub refusals : map (λ (r : Row). reading (r .file)) rows ≡ map (λ (r : Row). r .stated) rows
-unfolding rows wholeAt insideAt entryAt walk reading
+unfolding rows wholeAt insideAt entryAt walkWith readingWith
 refusals = refl

@@ -7,7 +7,7 @@ use lib.Dec.{eqb}
 use Rattle.model.specs.Table.{absorption, inputCoefficient, valueAddedCoefficient, importCoefficient, domesticCoefficient, domesticDemand}
 use Rattle.model.specs.Rounds.{intermediate, round, rounds, changes, settling, settled, inducedValueAdded, inducedImports}
 use Rattle.model.specs.Calls.{coefficientsReport, inputCoefficients, valueAddedCoefficients, importCoefficients, domesticCoefficients, domesticDemands, productionReport, inducedReport}
-use Rattle.model.specs.File.{Entry, encode, fileOf, wholeAt, insideAt, entryAt, walk, reading}
+use Rattle.model.specs.File.{Entry, encode, fileOf, wholeAt, insideAt, entryAt, walkWith, readingWith}
 use Rattle.model.specs.Bytes.{bytes}
 use Rattle.model.specs.Text.{digits}
 use Rattle.model.specs.Page.{refusalLine, tablePage, page}
@@ -50,5 +50,5 @@ unfolding pages
     absorption inputCoefficient valueAddedCoefficient importCoefficient domesticCoefficient domesticDemand
     intermediate round rounds changes settling settled inducedValueAdded inducedImports
     coefficientsReport inputCoefficients valueAddedCoefficients importCoefficients domesticCoefficients domesticDemands productionReport inducedReport
-    encode fileOf wholeAt insideAt entryAt walk reading digits refusalLine tablePage page
+    encode fileOf wholeAt insideAt entryAt walkWith readingWith digits refusalLine tablePage page
 worked-pages = refl

@@ -133,21 +133,21 @@ pub data Reading : Type 0 where
   table : ℕ → List Entry → Reading
 
 -- a question: where its answer is no, its number at a place; else what follows
-abbrev pub require : (yes? : Bool) (number place : ℕ) → Reading → Reading
+abbrev require : (yes? : Bool) (number place : ℕ) → Reading → Reading
 require yes? number place onward = cond yes? onward (Reading.refused number place)
 
-abbrev pub refuseIf : (no? : Bool) (number place : ℕ) → Reading → Reading
+abbrev refuseIf : (no? : Bool) (number place : ℕ) → Reading → Reading
 refuseIf no? number place onward = cond no? (Reading.refused number place) onward
 
--- The records after the first, from an offset on, with the cells named so far. A record has at least one byte, so the file's length is steps
--- enough (`fuel`)
-unfoldable pub walk : (fuel : ℕ) (s : Bytes) (n : ℕ) (es : List Entry) (at : ℕ) → Reading
-unfolding wholeAt insideAt entryAt
-walk zero s n es at = Reading.refused 15 (length s)
-walk (suc fuel) s n es at =
-    let onward = walk fuel s n (entryAt s at ∷ es) (nextAt s at) in
+-- The records after the first, from an offset on, with the cells named so far; `whole` is question 11. A record has at least one byte, so the
+-- file's length is steps enough (`fuel`)
+unfoldable pub walkWith : (whole : Bytes → ℕ → Bool) (fuel : ℕ) (s : Bytes) (n : ℕ) (es : List Entry) (at : ℕ) → Reading
+unfolding insideAt entryAt
+walkWith whole zero s n es at = Reading.refused 15 (length s)
+walkWith whole (suc fuel) s n es at =
+    let onward = walkWith whole fuel s n (entryAt s at ∷ es) (nextAt s at) in
     refuseIf (leb (length s) at) 15 (length s)
-    (require (wholeAt s at) 11 at
+    (require (whole s at) 11 at
     (refuseIf (eqb (kindAt s at) 1) 12 at
     (cond (eqb (kindAt s at) 8)
     (require (eqb (at + 1) (length s)) 15 (at + 1) (Reading.table n es))
@@ -155,14 +155,21 @@ walk (suc fuel) s n es at =
     (refuseIf (namedBefore es (entryAt s at)) 14 at onward)))))
 
 -- The whole file: 12 asks that the first record is kind 1 with n from 1 to 40. The empty file gives 15 at 0
-unfoldable pub reading : Bytes → Reading
-unfolding wholeAt walk
-reading s =
+unfoldable pub readingWith : (whole : Bytes → ℕ → Bool) → Bytes → Reading
+unfolding walkWith
+readingWith whole s =
     let n = cell s 1 in
-    let onward = walk (length s) s n [] 2 in
+    let onward = walkWith whole (length s) s n [] 2 in
     refuseIf (eqb (length s) 0) 15 0
-    (require (wholeAt s 0) 11 0
+    (require (whole s 0) 11 0
     (require (eqb (kindAt s 0) 1 && fewSectors n) 12 0 onward))
+
+-- with question 11 as above
+abbrev pub walk : (fuel : ℕ) (s : Bytes) (n : ℕ) (es : List Entry) (at : ℕ) → Reading
+walk = walkWith wholeAt
+
+abbrev pub reading : Bytes → Reading
+reading = readingWith wholeAt
 
 -- ---- the cells that a reading names: "a cell not named is 0"
 -- x: "row i of x starts at cell i × n"
@@ -191,7 +198,7 @@ fits x columns marks = eqb sheetLimit x && all (eqb sectorLimit) columns && eqb 
 
 -- "The reader asks 2 first", then walks
 unfoldable pub called : (x : ℕ) (columns : List ℕ) (marks : ℕ) → Bytes → Reading
-unfolding reading
+unfolding readingWith
 called x columns marks s = let later = reading s in cond (fits x columns marks) later (Reading.refused 2 0)
 
 -- "the result is n and how many cells were named"

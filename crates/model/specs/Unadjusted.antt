@@ -1,15 +1,15 @@
 -- Document 02, ticket 3: "A file without kind 10 means G = 0 and keeps its results". Document 01's own formulas, in which there is no G.
-use mathlib.Core.Bool.{Bool, _&&_, cond}
+use mathlib.Core.Bool.{Bool, _&&_}
 use mathlib.Core.List.{List, [], _∷_, _++_, map}
 use mathlib.Core.Path.{_≡_}
-use Prim.Native.Nat.{ℕ, zero, suc, _+_, _*_, _-_}
+use Prim.Native.Nat.{ℕ, _+_, _*_, _-_}
 use lib.Dec.{eqb, leb}
 use lib.ListN.{length, take, replicate}
 use Rattle.model.specs.Numbers.{Cells, one, tabulate, cell, at}
-use Rattle.model.specs.Table.{Table, tableOf, fewSectors, finalDemand, exports, imports, production, adjustment, portion, need, importCoefficient}
+use Rattle.model.specs.Table.{Table, tableOf, finalDemand, exports, imports, production, adjustment, portion, need, importCoefficient}
 use Rattle.model.specs.Checks.{Report, Check, verdict, each, size, lengths, tableAmounts, columnBalances, importsCovered, columnSums}
 use Rattle.model.specs.Calls.{domesticCoefficients}
-use Rattle.model.specs.File.{Entry, kindAt, nextAt, insideAt, entryAt, namedBefore, Reading, require, refuseIf, tableNamed}
+use Rattle.model.specs.File.{kindAt, nextAt, Reading, readingWith, tableNamed}
 use Rattle.model.specs.Bytes.{Bytes}
 use Rattle.model.specs.Figures.{reportFrom}
 use Rattle.model.specs.Page.{refusalLine, sheet, pageFrom}
@@ -55,28 +55,9 @@ module _ (t : Table) where
 abbrev pub unadjustedWhole : Bytes → ℕ → Bool
 unadjustedWhole s at = leb 1 (kindAt s at) && leb (kindAt s at) 9 && leb (nextAt s at) (length s)
 
--- the reader's walk with this question 11, otherwise as in `walk` and `reading`
-unfoldable pub unadjustedWalk : (fuel : ℕ) (s : Bytes) (n : ℕ) (es : List Entry) (at : ℕ) → Reading
-unfolding insideAt entryAt
-unadjustedWalk zero s n es at = Reading.refused 15 (length s)
-unadjustedWalk (suc fuel) s n es at =
-    let onward = unadjustedWalk fuel s n (entryAt s at ∷ es) (nextAt s at) in
-    refuseIf (leb (length s) at) 15 (length s)
-    (require (unadjustedWhole s at) 11 at
-    (refuseIf (eqb (kindAt s at) 1) 12 at
-    (cond (eqb (kindAt s at) 8)
-    (require (eqb (at + 1) (length s)) 15 (at + 1) (Reading.table n es))
-    (require (insideAt s at n) 13 at
-    (refuseIf (namedBefore es (entryAt s at)) 14 at onward)))))
-
-unfoldable pub unadjustedReading : Bytes → Reading
-unfolding unadjustedWalk
-unadjustedReading s =
-    let n = cell s 1 in
-    let onward = unadjustedWalk (length s) s n [] 2 in
-    refuseIf (eqb (length s) 0) 15 0
-    (require (unadjustedWhole s 0) 11 0
-    (require (eqb (kindAt s 0) 1 && fewSectors n) 12 0 onward))
+-- the reader with this question 11
+abbrev pub unadjustedReading : Bytes → Reading
+unadjustedReading = readingWith unadjustedWhole
 
 -- "A file without kind 10": this reader, which has no such kind, does not refuse it with 11 at a byte of 10
 abbrev pub WithoutKind10 : Bytes → Type 0

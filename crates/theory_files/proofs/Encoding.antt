@@ -11,7 +11,7 @@ use lib.Dec.{eqb, leb, ltb}
 use lib.ListN.{length}
 use Rattle.model.specs.Numbers.{first, cell}
 use Rattle.model.specs.Table.{sectorLimit}
-use Rattle.model.specs.File.{Entry, Within, recordLengths, columnWords, columnKinds, amountBytes, encode, encodeAll, amountFrom, kindAt, wholeAt, insideAt, entryAt, namedBefore, Reading, walk}
+use Rattle.model.specs.File.{Entry, Within, recordLengths, columnWords, columnKinds, amountBytes, encode, encodeAll, amountFrom, kindAt, wholeAt, insideAt, entryAt, namedBefore, Reading, walk, walkWith}
 use Rattle.theory.proofs.Lists.{first-before, and-true}
 
 -- two neighbouring bytes of an amount make one number
@@ -153,6 +153,6 @@ stands-inside n s at e size h =
 -- the reader's step over it
 pub step : (n : ℕ) (s : List ℕ) (at : ℕ) (e : Entry) (size fuel : ℕ) (es : List Entry) → Stands n s at e size
     → walk (suc fuel) s n es at ≡ cond (namedBefore es e) (Reading.refused 14 at) (walk fuel s n (e ∷ es) (at + size))
-unfolding walk
+unfolding walkWith
 step n s at e size fuel es h =
     rw (stands-inside n s at e size h, h .whole, h .later, h .going, h .inside, h .entry, h .sized) refl

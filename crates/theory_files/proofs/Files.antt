@@ -10,7 +10,7 @@ use lib.Dec.{ltb}
 use lib.ListN.{length, length-append}
 use Rattle.model.specs.Numbers.{cell}
 use Rattle.model.specs.Table.{sectorLimit}
-use Rattle.model.specs.File.{Entry, Within, encode, encodeAll, fileOf, wholeAt, namedBefore, Reading, walk, reading}
+use Rattle.model.specs.File.{Entry, Within, encode, encodeAll, fileOf, wholeAt, namedBefore, Reading, walk, walkWith, reading, readingWith}
 use Rattle.theory_files.proofs.Encoding.{stands, step}
 
 -- each of a list of cells is one that a table of n sectors has, and none is one of `es` or one before it
@@ -29,7 +29,7 @@ ended n es end (_ ∷ _) = Reading.refused 15 end
 
 walk-end : (n : ℕ) (es : List Entry) (before rest : List ℕ) (fuel : ℕ)
     → walk (suc fuel) (before ++ (8 ∷ rest)) n es (length before) ≡ ended n es (length before + 1) rest
-unfolding walk wholeAt
+unfolding walkWith wholeAt
 walk-end n es before [] fuel =
     let at = length before in
     rw (kind-here before 8 [], length-append before (8 ∷ []), lt-leb (at + 1) at (omega arith), le-leb (at + 1) (at + 1) (le-refl (at + 1)), eq-eqb (at + 1) (at + 1) refl)
@@ -76,7 +76,7 @@ bytes-enough (e ∷ es) =
 -- a file written of cells that the table has, none of them twice, and bytes after it
 pub read-then : (n : ℕ) (es : List Entry) (rest : List ℕ) → 1 ≤ n → n ≤ sectorLimit → Fresh n [] es
     → reading (1 ∷ n ∷ (encodeAll es ++ (8 ∷ rest))) ≡ ended n (reverse es) (2 + length (encodeAll es) + 1) rest
-unfolding reading wholeAt
+unfolding readingWith wholeAt
 read-then n es rest some most f =
     let body = encodeAll es ++ (8 ∷ rest) in
     let bytes = length body in

@@ -11,7 +11,7 @@ use lib.ListN.{length, take}
 use lib.Seq.{length-take-le}
 use Rattle.model.specs.Numbers.{cell}
 use Rattle.model.specs.Table.{sectorLimit, fewSectors}
-use Rattle.model.specs.File.{Entry, recordLengths, amountFrom, kindAt, nextAt, wholeAt, insideAt, entryAt, namedBefore, walk, reading, fileLimit}
+use Rattle.model.specs.File.{Entry, recordLengths, amountFrom, kindAt, nextAt, wholeAt, insideAt, entryAt, namedBefore, walk, walkWith, reading, readingWith, fileLimit}
 use Rattle.model.specs.Page.{readingPage, page}
 use Rattle.theory_files.specs.Files.{inputLimit}
 use Rattle.theory.proofs.Lists.{first-before, and-true, from-one}
@@ -61,7 +61,7 @@ module _ (s t : List ℕ) (same : (i : ℕ) → i < inputLimit → cell t i ≡ 
 
   walk-same : (fuel fuel′ n : ℕ) (es : List Entry) (at : ℕ) → n ≤ sectorLimit → at ≤ 2 + weight es → fileLimit ≤ fuel + at → fileLimit ≤ fuel′ + at
       → walk fuel t n es at ≡ walk fuel′ s n es at
-  unfolding walk
+  unfolding walkWith
   walk-same zero fuel′ n es at most h f f′ = absurd (let limit = weight-most es in omega arith)
   walk-same (suc fuel) zero n es at most h f f′ = absurd (let limit = weight-most es in omega arith)
   walk-same (suc fuel) (suc fuel′) n es at most h f f′ =
@@ -87,7 +87,7 @@ module _ (s t : List ℕ) (same : (i : ℕ) → i < inputLimit → cell t i ≡ 
       walk-same fuel fuel′ n (entryAt s at ∷ es) (nextAt s at) most (offset-on s es at most here fresh h) (omega arith) (omega arith)))))))
 
   pub reading-same : reading t ≡ reading s
-  unfolding reading
+  unfolding readingWith
   reading-same =
       let n = cell s 1 in
       rw (

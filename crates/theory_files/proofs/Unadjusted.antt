@@ -9,8 +9,8 @@ use lib.Dec.{eqb, leb, ltb}
 use lib.ListN.{length, replicate}
 use Rattle.model.specs.Numbers.{cell, all}
 use Rattle.model.specs.Table.{sectorLimit, sheetLimit, fewSectors}
-use Rattle.model.specs.File.{Entry, recordLengths, columnWord, columnWords, amountFrom, kindAt, isFlow, nextAt, wholeAt, insideAt, entryAt, namedBefore, Reading, walk, reading, columnOf, columnRead, fits, called, wordLimit}
-use Rattle.model.specs.Unadjusted.{unadjustedWhole, unadjustedWalk, unadjustedReading, WithoutKind10}
+use Rattle.model.specs.File.{Entry, recordLengths, columnWord, columnWords, amountFrom, kindAt, isFlow, nextAt, wholeAt, insideAt, entryAt, namedBefore, Reading, walk, walkWith, reading, readingWith, columnOf, columnRead, fits, called, wordLimit}
+use Rattle.model.specs.Unadjusted.{unadjustedWhole, unadjustedReading, WithoutKind10}
 use Rattle.model.specs.Contracts.{Slices, columnsOf, readingInto, Delivered}
 use Rattle.theory.proofs.Lists.{first-before, and-true, and-last-false, from-one, each-equal}
 use Rattle.theory_files.proofs.Encoding.{made, unlike}
@@ -101,8 +101,8 @@ module _ (s : List ℕ) where
           let other = eqb-false (kindAt s at) 10 e in
           rw (sym (whole-same s at other)) (both-provided Same (wholeAt s at) x y 11 at stop (λ w. go w other))
 
-  walk-same : (n : ℕ) → n ≤ sectorLimit → (fuel : ℕ) (es : List Entry) (at : ℕ) → NoItem es → Same (walk fuel s n es at) (unadjustedWalk fuel s n es at)
-  unfolding walk unadjustedWalk
+  walk-same : (n : ℕ) → n ≤ sectorLimit → (fuel : ℕ) (es : List Entry) (at : ℕ) → NoItem es → Same (walk fuel s n es at) (walkWith unadjustedWhole fuel s n es at)
+  unfolding walkWith
   walk-same n few zero es at none = λ _. (refl, tt)
   walk-same n few (suc fuel) es at none =
       both-unless Same (leb (length s) at) _ _ 15 (length s) stop (λ _.
@@ -117,7 +117,7 @@ module _ (s : List ℕ) where
 
   -- Theorem, for the reader: a file without kind 10 is read as document 01's reader reads it, and names no cell of G
   pub reading-same : WithoutKind10 s → (reading s ≡ unadjustedReading s) × Plain (unadjustedReading s)
-  unfolding reading unadjustedReading
+  unfolding readingWith
   reading-same =
       both-unless Same (eqb (length s) 0) _ _ 15 0 stop (λ _.
       whole 0 _ _ (λ _ _.

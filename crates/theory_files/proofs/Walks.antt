@@ -10,7 +10,7 @@ use lib.Dec.{eqb, leb, lit≤}
 use lib.ListN.{length}
 use Rattle.model.specs.Numbers.{cell}
 use Rattle.model.specs.Table.{sectorLimit, fewSectors}
-use Rattle.model.specs.File.{Entry, kindAt, nextAt, wholeAt, insideAt, entryAt, namedBefore, Reading, walk, reading}
+use Rattle.model.specs.File.{Entry, kindAt, nextAt, wholeAt, insideAt, entryAt, namedBefore, Reading, walk, walkWith, reading, readingWith}
 use Rattle.theory.proofs.Lists.{and-true, from-one}
 use Rattle.theory_files.proofs.RecordKinds.{Taken, taken}
 use Rattle.theory_files.proofs.Questions.{unless, provided, either}
@@ -50,7 +50,7 @@ module _ (s : List ℕ) (P : Reading → Type 0)
         (goes-on : (es : List Entry) (at : ℕ) → I es at → Next s n es at → I (entryAt s at ∷ es) (nextAt s at))
       where
         walk-holds : n ≤ sectorLimit → (fuel : ℕ) (es : List Entry) (at : ℕ) → I es at → P (walk fuel s n es at)
-        unfolding walk
+        unfolding walkWith
         walk-holds few zero es at i = stops 15 len (lit≤ tt) (lit≤ tt) (le-refl len)
         walk-holds few (suc fuel) es at i =
             unless P (leb len at) _ 15 len (stops 15 len (lit≤ tt) (lit≤ tt) (le-refl len)) (λ on.
@@ -70,7 +70,7 @@ module _ (s : List ℕ) (P : Reading → Type 0)
 
         -- is a property of the reading, if the first record begins it
         pub reading-holds : (First s n → I [] 2) → P (reading s)
-        unfolding reading
+        unfolding readingWith
         reading-holds starts =
             unless P (eqb len 0) _ 15 0 (stops 15 0 (lit≤ tt) (lit≤ tt) (omega arith)) (λ _.
             provided P (wholeAt s 0) _ 11 0 (stops 11 0 (lit≤ tt) (lit≤ tt) (omega arith)) (λ whole.
