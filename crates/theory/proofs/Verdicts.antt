@@ -5,7 +5,7 @@ use mathlib.Core.List.{List, [], _∷_, _++_}
 use Prim.Native.Nat.{ℕ, _+_, _*_, _≤_, _<_, zero-le}
 use native.Mathlib.Nat.{le-refl, lt-of-lt-of-le, zero-add}
 use native.Mathlib.Numerals.{add-one}
-use borrow.Author.Tests.{lt-ltb, le-ltb, ltb-false, le-leb, leb-true, eq-eqb}
+use borrow.Author.Tests.{lt-ltb, le-ltb, ltb-true, ltb-false, le-leb, leb-true, eq-eqb}
 use lib.Dec.{ltb, eqb}
 use lib.ListN.{length, replicate}
 use Rattle.model.specs.Numbers.{sum, first, all, at, transposed}
@@ -86,19 +86,32 @@ output-from r {len} {lent} {y} {z} e h = split (r .accepted) h
     split true h = h refl
     split false h = ap (λ (l : ℕ). replicate l 0) e
 
+-- Two lists that ask the same check first: what holds of both refusals, and of what follows where it passes, holds of both
+module _ (R : Report → Report → Type 0) (q : Check) where
+  abbrev place : ℕ
+  place = first (q .places) (q .passes)
+
+  pub asked-both : (ps qs : List Check) (js ks : List ℕ)
+      → (place < q .places → R (refuses (length js) (q .number) (q .offset + place)) (refuses (length ks) (q .number) (q .offset + place)))
+      → (Passes q → R (verdict ps js) (verdict qs ks)) → R (verdict (q ∷ ps) js) (verdict (q ∷ qs) ks)
+  asked-both ps qs js ks stop on = split (ltb place (q .places)) refl
+    where
+      split : (t : Bool) → ltb place (q .places) ≡ t
+          → R (cond t (refuses (length js) (q .number) (q .offset + place)) (verdict ps js)) (cond t (refuses (length ks) (q .number) (q .offset + place)) (verdict qs ks))
+      split true e = stop (ltb-true place (q .places) e)
+      split false e = on (λ i h. first-before (q .places) (q .passes) i (lt-of-lt-of-le h (ltb-false place (q .places) e)))
+
+-- and one list
+pub asked : (P : Report → Type 0) (q : Check) (qs : List Check) (ks : List ℕ)
+    → (first (q .places) (q .passes) < q .places → P (refuses (length ks) (q .number) (q .offset + first (q .places) (q .passes)))) → (Passes q → P (verdict qs ks))
+    → P (verdict (q ∷ qs) ks)
+asked P q qs ks stop on = asked-both (λ r _. P r) q qs qs ks ks stop on
+
 -- where a list of checks accepts, all of them pass, and the report has the call's counts
 pub accepted-all : (qs : List Check) (ks : List ℕ) → verdict qs ks .accepted ≡ true → AllPass qs
 accepted-all [] ks a = tt
-accepted-all (q ∷ qs) ks a = split (ltb place (q .places)) refl a (accepted-all qs ks)
-  where
-    place : ℕ
-    place = first (q .places) (q .passes)
-
-    split : (t : Bool) → ltb place (q .places) ≡ t → cond t (refuses (length ks) (q .number) (q .offset + place)) (verdict qs ks) .accepted ≡ true
-        → (verdict qs ks .accepted ≡ true → AllPass qs) → Passes q × AllPass qs
-    split true e a more = absurd (false≢true a)
-    split false e a more =
-        (λ i h. first-before (q .places) (q .passes) i (lt-of-lt-of-le h (ltb-false place (q .places) e)), more a)
+accepted-all (q ∷ qs) ks a =
+    asked (λ r. r .accepted ≡ true → AllPass (q ∷ qs)) q qs ks (λ _ a. absurd (false≢true a)) (λ p a. (p, accepted-all qs ks a)) a
 
 -- where checks and those after them all pass, each part does
 pub all-pass-parts : (ps qs : List Check) → AllPass (ps ++ qs) → AllPass ps × AllPass qs
@@ -114,16 +127,7 @@ pass-on (q ∷ ps) qs ks p =
 -- a check that passes wherever those before it pass need not be asked
 pub passed-after : (ps : List Check) (q : Check) (qs : List Check) (ks : List ℕ) → (AllPass ps → Passes q) → verdict (ps ++ (q ∷ qs)) ks ≡ verdict (ps ++ qs) ks
 passed-after [] q qs ks h = passed q qs ks (q .places) (le-refl (q .places)) (h tt)
-passed-after (p ∷ ps) q qs ks h = split (ltb place (p .places)) refl (λ a. passed-after ps q qs ks (λ b. h (a, b)))
-  where
-    place : ℕ
-    place = first (p .places) (p .passes)
-
-    split : (t : Bool) → ltb place (p .places) ≡ t → (Passes p → verdict (ps ++ (q ∷ qs)) ks ≡ verdict (ps ++ qs) ks)
-        → cond t (refuses (length ks) (p .number) (p .offset + place)) (verdict (ps ++ (q ∷ qs)) ks)
-        ≡ cond t (refuses (length ks) (p .number) (p .offset + place)) (verdict (ps ++ qs) ks)
-    split true e more = refl
-    split false e more = more (λ i h. first-before (p .places) (p .passes) i (lt-of-lt-of-le h (ltb-false place (p .places) e)))
+passed-after (p ∷ ps) q qs ks h = asked-both _≡_ p (ps ++ (q ∷ qs)) (ps ++ qs) ks ks (λ _. refl) (λ a. passed-after ps q qs ks (λ b. h (a, b)))
 
 -- and where all pass the call is accepted
 pub all-accepted : (qs : List Check) (ks : List ℕ) → AllPass qs → verdict qs ks ≡ accepts ks
@@ -132,32 +136,15 @@ all-accepted (q ∷ qs) ks p = passed q qs ks (q .places) (le-refl (q .places)) 
 
 pub accepted-counts : (qs : List Check) (ks : List ℕ) → verdict qs ks .accepted ≡ true → verdict qs ks .counts ≡ ks
 accepted-counts [] ks a = refl
-accepted-counts (q ∷ qs) ks a = split (ltb place (q .places)) a (accepted-counts qs ks)
-  where
-    place : ℕ
-    place = first (q .places) (q .passes)
-
-    refusal : Report
-    refusal = refuses (length ks) (q .number) (q .offset + place)
-
-    split : (t : Bool) → cond t refusal (verdict qs ks) .accepted ≡ true → (verdict qs ks .accepted ≡ true → verdict qs ks .counts ≡ ks)
-        → cond t refusal (verdict qs ks) .counts ≡ ks
-    split true a more = absurd (false≢true a)
-    split false a more = more a
+accepted-counts (q ∷ qs) ks a =
+    asked (λ r. r .accepted ≡ true → r .counts ≡ ks) q qs ks (λ _ a. absurd (false≢true a)) (λ _. accepted-counts qs ks) a
 
 -- checks that refuse refuse whatever follows, with as many counts as the call has
 refuse-on : (ps qs : List Check) (ks : List ℕ) (a p : ℕ) → verdict ps [] ≡ refuses 0 a p → verdict (ps ++ qs) ks ≡ refuses (length ks) a p
 refuse-on [] qs ks a p e = absurd (false≢true (sym (ap (λ (r : Report). r .accepted) e)))
-refuse-on (q ∷ ps) qs ks a p e = split (ltb place (q .places)) e (refuse-on ps qs ks a p)
-  where
-    place : ℕ
-    place = first (q .places) (q .passes)
-
-    split : (t : Bool) → cond t (refuses 0 (q .number) (q .offset + place)) (verdict ps []) ≡ refuses 0 a p
-        → (verdict ps [] ≡ refuses 0 a p → verdict (ps ++ qs) ks ≡ refuses (length ks) a p)
-        → cond t (refuses (length ks) (q .number) (q .offset + place)) (verdict (ps ++ qs) ks) ≡ refuses (length ks) a p
-    split true e more = ap₂ (refuses (length ks)) (ap (λ (r : Report). r .number) e) (ap (λ (r : Report). r .place) e)
-    split false e more = more e
+refuse-on (q ∷ ps) qs ks a p e =
+    asked-both (λ r s. r ≡ refuses 0 a p → s ≡ refuses (length ks) a p) q ps (ps ++ qs) [] ks
+    (λ _ e. ap₂ (refuses (length ks)) (ap (λ (r : Report). r .number) e) (ap (λ (r : Report). r .place) e)) (λ _. refuse-on ps qs ks a p) e
 
 -- a call that has asked some checks and was answered a: where they refuse it is done, where they accept it goes on with the others
 module _ (ps : List Check) {a : Answer} (said : report a ≡ verdict ps []) where

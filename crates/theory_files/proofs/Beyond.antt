@@ -47,16 +47,15 @@ module _ (n : ℕ) where
 abbrev Zero : ℕ → List ℕ → Type 0
 Zero n l = (k : ℕ) → n ≤ k → cell l k ≡ 0
 
-each : (n : ℕ) (s : Slices) → Zero n (s .finalDemand) → Zero n (s .exports) → Zero n (s .imports) → Zero n (s .valueAdded) → Zero n (s .production) → Zero n (s .adjustment) → Zero n (s .rises)
-    → (c : ℕ) → Zero n (getD (columnsOf s) c [])
-each n s f e m v p g r zero = f
-each n s f e m v p g r (suc zero) = e
-each n s f e m v p g r (suc (suc zero)) = m
-each n s f e m v p g r (suc (suc (suc zero))) = v
-each n s f e m v p g r (suc (suc (suc (suc zero)))) = p
-each n s f e m v p g r (suc (suc (suc (suc (suc zero))))) = g
-each n s f e m v p g r (suc (suc (suc (suc (suc (suc zero)))))) = r
-each n s f e m v p g r (suc (suc (suc (suc (suc (suc (suc c))))))) = λ k h. refl
+-- each of a list of slices
+abbrev Zeros : ℕ → List (List ℕ) → Type 0
+Zeros n [] = Unit {0}
+Zeros n (l ∷ ls) = Zero n l × Zeros n ls
+
+each : (n : ℕ) (ls : List (List ℕ)) → Zeros n ls → (c : ℕ) → Zero n (getD ls c [])
+each n [] zs c = λ k h. refl
+each n (l ∷ ls) zs zero = zs .0
+each n (l ∷ ls) zs (suc c) = each n ls (zs .1) c
 
 same : {n : ℕ} {l m : List ℕ} → l ≡ m → Zero n m → Zero n l
 same e z k h = ap (λ (x : List ℕ). cell x k) e ∙ z k h
@@ -90,8 +89,10 @@ beyond file s₀ marks₀ s d =
     record {
       flows = same (d .flows) (flows-left _ inputLimit o a);
       columns =
-          each (told o) s (column 0 _ (d .finalDemand)) (column 1 _ (d .exports)) (column 2 _ (d .imports)) (column 3 _ (d .valueAdded))
-          (column 4 _ (d .production)) (column 5 _ (d .adjustment)) (column 6 _ (d .rises));
+          each (told o) (columnsOf s) (
+            column 0 _ (d .finalDemand),
+            (column 1 _ (d .exports), (column 2 _ (d .imports), (column 3 _ (d .valueAdded), (column 4 _ (d .production), (column 5 _ (d .adjustment), (column 6 _ (d .rises), tt)))))),
+          );
     }
   where
     o : Reading

@@ -3,13 +3,13 @@ use mathlib.Core.Bool.{Bool, true, false, cond}
 use mathlib.Core.List.{List, [], _∷_, _++_, map, append-assoc}
 use mathlib.Core.Path.{_≡_, refl, sym, ap, _∙_}
 use Prim.Native.Nat.{ℕ, zero, suc, _+_, _*_, _^_, _≤_, _<_, suc-le-suc}
-use native.Mathlib.Nat.{zero-lt-suc, not-suc-le-zero, le-step, lt-suc-self, lt-of-lt-of-le, mul-le-mul}
+use native.Mathlib.Nat.{zero-lt-suc, not-suc-le-zero, le-step, lt-suc-self, mul-le-mul}
 use native.Mathlib.Omega.{arith}
-use borrow.Author.Tests.{ltb-true, ltb-false, leb-true, ne-eqb}
-use lib.Dec.{ltb, lit≤, lit<}
+use borrow.Author.Tests.{leb-true, ne-eqb}
+use lib.Dec.{lit≤, lit<}
 use lib.ListN.{length, replicate, length-append}
 use lib.Seq.{sets}
-use Rattle.model.specs.Numbers.{first, cell, at}
+use Rattle.model.specs.Numbers.{cell, at}
 use Rattle.model.specs.Table.{Table, finalDemand, portion, sectorLimit}
 use Rattle.model.specs.Rounds.{settling, intermediate, inducedValueAdded, inducedImports}
 use Rattle.model.specs.Checks.{Report, accepts, roundsOf, Check, verdict, refuses, size, lengths, bounded, countedOn, amountLimit, balanceChecks, columnSums, single, settles, demandLimit}
@@ -21,10 +21,10 @@ use Rattle.model.specs.Page.{headings, refusalLine, orRefusal, sectorLine, line
 use Rattle.theory_files.specs.Files.{inputLimit}
 use Rattle.theory.specs.Slices.{Columns}
 use Rattle.theory.proofs.Sums.{upto, sum-cell, cell-in}
-use Rattle.theory.proofs.Lists.{cell-tabulate, first-before}
+use Rattle.theory.proofs.Lists.{cell-tabulate}
 use Rattle.theory.proofs.Shares.{portion-le}
 use Rattle.theory_rounds.proofs.Rounds.{weighted-shares, intermediate-within}
-use Rattle.theory.proofs.Verdicts.{Passes, single-passed, single-failed}
+use Rattle.theory.proofs.Verdicts.{Passes, asked, single-passed, single-failed}
 use Rattle.theory_rounds.proofs.Answers.{InducedGiven, accepted-induced, accepted-settled}
 use Rattle.theory_tables.proofs.Tables.{table-sizes}
 use Rattle.theory_tables.proofs.Prepared.{production-ready, induced-ready}
@@ -50,14 +50,7 @@ Near r = r .number + r .place < 100000
 
 -- a check whose number and places are few, and what is asked once it passes
 check-near : (q : Check) (qs : List Check) (k : List ℕ) → q .number + q .offset + q .places ≤ 100000 → (Passes q → Near (verdict qs k)) → Near (verdict (q ∷ qs) k)
-check-near q qs k few more = split (ltb place (q .places)) refl
-  where
-    place : ℕ
-    place = first (q .places) (q .passes)
-
-    split : (t : Bool) → ltb place (q .places) ≡ t → Near (cond t (refuses (length k) (q .number) (q .offset + place)) (verdict qs k))
-    split true e = omega (arith, ltb-true place (q .places) e, few)
-    split false e = more (λ i h. first-before (q .places) (q .passes) i (lt-of-lt-of-le h (ltb-false place (q .places) e)))
+check-near q qs k few = asked Near q qs k (λ low. omega (arith, low, few))
 
 -- numbers and places of all checks of a list: no refusal has more
 abbrev reach : List Check → ℕ
