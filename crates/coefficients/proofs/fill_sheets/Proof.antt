@@ -68,6 +68,21 @@ returns c =
     let e = c .enum-told2 .given .1 in
     (answered-end (asked q) (q .check-called .ensures) (last q) e, λ ok. absurd (false≢true (sym (ap (λ (a : Answer). report a .accepted) e) ∙ ok)))
 
+returns-2 : tie.Need-returns-2
+unfolding coefficientsReport valueAddedCoefficients valueAddedCoefficient
+returns-2 c =
+    let r = c .before .before .before .before in
+    let i = r .before .before .before .before .before .before .before in
+    let p = told i in
+    let q = p .before .before in
+    let t = table (start p) in
+    let n = start p .args .n in
+    let e = r .finish .ensures in
+    let d = e .1 .0 ∙ domestic-from t (passed p .sizes .some) (inputs-are i) (imports-are i) in (
+      e .0 ∙ ap (λ (l : List ℕ). verdict (columnSums n (at n l) ∷ []) []) d ∙ answered-on (asked q) (q .check-called .ensures) (last q) [] (p .enum-told .given .1),
+      λ _. (inputs-are i, i .before .before .before .before .fill-shares .ensures, imports-are i, d, e .1 .1 ∙ demand-from t (imports-are i)),
+    )
+
 fill-inputs-requires : tie.Need-fill-inputs-requires
 fill-inputs-requires c κs =
     let A = passed (c .before) in
@@ -113,21 +128,6 @@ finish-requires c κs =
           λ k. (A .small .columns 0 k, A .small .columns 1 k, A .small .columns 5 k),
         ),
       ),
-    )
-
-returns-2 : tie.Need-returns-2
-unfolding coefficientsReport valueAddedCoefficients valueAddedCoefficient
-returns-2 c =
-    let r = c .before .before .before .before in
-    let i = r .before .before .before .before .before .before .before in
-    let p = told i in
-    let q = p .before .before in
-    let t = table (start p) in
-    let n = start p .args .n in
-    let e = r .finish .ensures in
-    let d = e .1 .0 ∙ domestic-from t (passed p .sizes .some) (inputs-are i) (imports-are i) in (
-      e .0 ∙ ap (λ (l : List ℕ). verdict (columnSums n (at n l) ∷ []) []) d ∙ answered-on (asked q) (q .check-called .ensures) (last q) [] (p .enum-told .given .1),
-      λ _. (inputs-are i, i .before .before .before .before .fill-shares .ensures, imports-are i, d, e .1 .1 ∙ demand-from t (imports-are i)),
     )
 
 pub fill-sheets-spec : {M : Type 1} → statement M

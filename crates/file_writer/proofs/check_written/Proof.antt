@@ -37,15 +37,6 @@ asked q = let t = whole q in size (t .sectors) ∷ lengths (t .sectors) (length 
 abbrev later : tie.After-check-sizes → List Check
 later q = single 2 (eqb fileLimit (entry q .args .file)) ∷ tableAmounts (whole q)
 
-returns : tie.Need-returns
-returns c = let q = c .before .before in answered-end (asked q) (q .check-sizes .ensures) (later q) (c .enum-told2 .given .1)
-
-returns-2 : tie.Need-returns-2
-returns-2 c =
-    let q = c .before .before .before in
-    sym (single-failed 2 (tableAmounts (whole q)) [] (ne-eqb fileLimit (entry q .args .file) (λ e. c .if1 .taken (sym e))))
-    ∙ answered-on (asked q) (q .check-sizes .ensures) (later q) [] (c .before .enum-told .given .1)
-
 -- the lengths that passed
 sizes : (c : tie.After-enum-told) → TableSizes (whole (c .before .before))
 sizes c =
@@ -57,11 +48,14 @@ sizes c =
 square : (c : tie.After-enum-told) → let n = entry (c .before .before) .args .n in (n ≤ sectorLimit) × (n * n ≤ sheetLimit)
 square c = let few = sizes c .few in (few, mul-le-mul few few)
 
-check-amounts-requires : tie.Need-check-amounts-requires
-check-amounts-requires c κs = sizes (c .before) .flows
+returns : tie.Need-returns
+returns c = let q = c .before .before in answered-end (asked q) (q .check-sizes .ensures) (later q) (c .enum-told2 .given .1)
 
-next-within-requires : tie.Need-next-within-requires
-next-within-requires c κs = let p = c .before .before in omega (arith, square p, sizes p .columns 5 (lit< tt), sizes p .columns 6 (lit< tt))
+returns-2 : tie.Need-returns-2
+returns-2 c =
+    let q = c .before .before .before in
+    sym (single-failed 2 (tableAmounts (whole q)) [] (ne-eqb fileLimit (entry q .args .file) (λ e. c .if1 .taken (sym e))))
+    ∙ answered-on (asked q) (q .check-sizes .ensures) (later q) [] (c .before .enum-told .given .1)
 
 returns-3 : tie.Need-returns-3
 returns-3 c =
@@ -76,6 +70,12 @@ returns-3 c =
     ∙ ap (λ (k : ℕ). verdict (tableAmounts before ++ (bounded 3 k amountLimit (a .rises .now) ∷ [])) []) place
     ∙ sym (single-passed 2 (tableAmounts (whole q)) [] (eq-eqb fileLimit (a .file) (sym (c .before .before .if1 .left))))
     ∙ answered-on (asked q) (q .check-sizes .ensures) (later q) [] (p .enum-told .given .1)
+
+check-amounts-requires : tie.Need-check-amounts-requires
+check-amounts-requires c κs = sizes (c .before) .flows
+
+next-within-requires : tie.Need-next-within-requires
+next-within-requires c κs = let p = c .before .before in omega (arith, square p, sizes p .columns 5 (lit< tt), sizes p .columns 6 (lit< tt))
 
 pub check-written-spec : {M : Type 1} → statement M
 check-written-spec =

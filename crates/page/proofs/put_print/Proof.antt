@@ -34,6 +34,12 @@ goes-on k =
 few : (k : tie.After-print2) → k .print2 .given .0 .0 ≤ sectorLimit
 few k = subst Few (k .print2 .given .1) (k .before .before .before .before .before .before .before .pre .0 .0)
 
+returns : tie.Need-returns
+returns c = told (c .before .before .before .before .before .before .before .before .before .before .before .before .args .out .now) (stops (c .before .before .before .before .before)) (c .before .before .put-refusal .ensures)
+
+returns-2 : tie.Need-returns-2
+returns-2 c = told (c .before .before .before .before .before .before .before .before .before .before .before .before .before .before .before .before .args .out .now) (goes-on (c .before .before .before .before .before .before .before .before .before)) (c .before .before .put-sheet .ensures)
+
 put-refusal-requires : tie.Need-put-refusal-requires
 put-refusal-requires c κs = let k = c .before .before in room (stops k) (k .before .before .before .before .before .before .before .pre .1)
 
@@ -57,12 +63,6 @@ put-sheet-requires c κs =
     let n = k .print2 .given .0 .0 in
     let l = s .pre .0 in
     ((first-part n (a .f .now) (few k) (l .1), first-part n (a .y .now) (few k) (l .2), first-part n (a .value .now) (few k) (l .3), first-part n (a .imports .now) (few k) (l .4)), room (goes-on k) (s .pre .1))
-
-returns : tie.Need-returns
-returns c = told (c .before .before .before .before .before .before .before .before .before .before .before .before .args .out .now) (stops (c .before .before .before .before .before)) (c .before .before .put-refusal .ensures)
-
-returns-2 : tie.Need-returns-2
-returns-2 c = told (c .before .before .before .before .before .before .before .before .before .before .before .before .before .before .before .before .args .out .now) (goes-on (c .before .before .before .before .before .before .before .before .before)) (c .before .before .put-sheet .ensures)
 
 pub put-print-spec : {M : Type 1} → statement M
 put-print-spec =
