@@ -17,6 +17,16 @@ abbrev μ-loop : tie.MeasureT-loop
 abbrev entry : tie.At-loop Inv-loop μ-loop → tie.Start Inv-loop μ-loop
 entry p = p .before .before .before .before
 
+loop-again : tie.Need-loop-again Inv-loop μ-loop
+loop-again c =
+    let q = c .before .before in
+    let p = q .before in
+    front-set (p .loop .inv) (q .loop-test .taken) (ap (λ (t : ℕ). cell (entry p .args .y .now) (p .loop .i) - t) (c .intermediate-use .ensures))
+
+returns : tie.Need-returns Inv-loop μ-loop
+unfolding impliedDemand
+returns c = front-done (c .before .loop .inv) (c .loop-test .left)
+
 intermediate-use-requires : tie.Need-intermediate-use-requires Inv-loop μ-loop
 intermediate-use-requires c κs =
     let p = c .before .before in
@@ -28,16 +38,6 @@ sub-out : tie.Need-sub-out Inv-loop μ-loop
 sub-out c =
     let p = c .before .before .before in
     omega (arith, c .intermediate-use .ensures, entry p .pre .1 .1 (p .loop .i) (c .before .before .loop-test .taken))
-
-loop-again : tie.Need-loop-again Inv-loop μ-loop
-loop-again c =
-    let q = c .before .before in
-    let p = q .before in
-    front-set (p .loop .inv) (q .loop-test .taken) (ap (λ (t : ℕ). cell (entry p .args .y .now) (p .loop .i) - t) (c .intermediate-use .ensures))
-
-returns : tie.Need-returns Inv-loop μ-loop
-unfolding impliedDemand
-returns c = front-done (c .before .loop .inv) (c .loop-test .left)
 
 pub subtract-spec : {M : Type 1} → statement M
 subtract-spec =

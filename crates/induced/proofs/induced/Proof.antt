@@ -28,6 +28,18 @@ given p =
     accepted-induced (a .n) (a .a .now) (a .m .now) (a .v .now) (a .final-demand .now) (a .production .now) (length (a .value .now) ∷ length (a .imports .now) ∷ [])
     (ap (λ (r : Report). r .accepted) (sym (accepted p)))
 
+returns : tie.Need-returns
+returns c =
+    let k = c .before .before .before .before .before .before .before .before .before in
+    let q = k .before .before in
+    let e = sym (ap report (k .checked .given .1)) ∙ q .check-induced .ensures in
+    record { answer = e; values = c .before .before .before .before .before .before .fill-zero .ensures; imported = c .before .before .fill-zero2 .ensures }
+
+returns-2 : tie.Need-returns-2
+returns-2 c =
+    let p = c .before .before .before .before .before .before .before .before in
+    record { answer = accepted p; values = c .before .before .before .before .before .before .fill-induced-value-added .ensures; imported = c .before .before .fill-induced-imports .ensures }
+
 fill-induced-value-added-requires : tie.Need-fill-induced-value-added-requires
 fill-induced-value-added-requires c κs =
     let p = c .before in
@@ -40,18 +52,6 @@ fill-induced-imports-requires c κs =
     let g = given p in
     let s = g .sizes in
     ((s .inputs, s .imports, s .demand, s .production, s .slices .1 .0), (g .inputs-small, (g .imports-small, (g .demand-small, g .total))))
-
-returns : tie.Need-returns
-returns c =
-    let k = c .before .before .before .before .before .before .before .before .before in
-    let q = k .before .before in
-    let e = sym (ap report (k .checked .given .1)) ∙ q .check-induced .ensures in
-    record { answer = e; values = c .before .before .before .before .before .before .fill-zero .ensures; imported = c .before .before .fill-zero2 .ensures }
-
-returns-2 : tie.Need-returns-2
-returns-2 c =
-    let p = c .before .before .before .before .before .before .before .before in
-    record { answer = accepted p; values = c .before .before .before .before .before .before .fill-induced-value-added .ensures; imported = c .before .before .fill-induced-imports .ensures }
 
 pub induced-spec : {M : Type 1} → statement M
 induced-spec =

@@ -4,13 +4,13 @@ use Rattle.model.specs.Page.{refusalLine}
 use Rattle.page_lines.proofs.put_refusal.Statement.{statement}
 use Rattle.page_lines.proofs.put_refusal.Tie as tie
 
-put-labelled-requires : tie.Need-put-labelled-requires
-unfolding refusalLine
-put-labelled-requires c κs = search needs
-
 returns : tie.Need-returns
 unfolding refusalLine
 returns c = search needs
+
+put-labelled-requires : tie.Need-put-labelled-requires
+unfolding refusalLine
+put-labelled-requires c κs = search needs
 
 pub put-refusal-spec : {M : Type 1} → statement M
 put-refusal-spec =

@@ -42,15 +42,18 @@ others c =
     let s = c .before .before .before .before .before .before in
     go-on (decimal (getD (s .args .cells .now) 0 0)) (later (s .args .cells .now)) (some (c .before .before .before)) (start s) (c .put-decimal .ensures)
 
-put-byte-requires : tie.Need-put-byte-requires
-put-byte-requires c κs =
-    let s = c .before .before .before .before in
-    room (s .pre) (leaves (10 ∷ []) (none (c .before)) (start s))
-
 returns : tie.Need-returns
 returns c =
     let s = c .before .before .before .before .before .before .before in
     done (leaves (10 ∷ []) (none (c .before .before .before .before)) (start s)) (c .before .before .put-byte .ensures)
+
+returns-2 : tie.Need-returns-2
+returns-2 c = done (others (c .before .before .before .before .before .before .before)) (c .before .before .put-rest .ensures)
+
+put-byte-requires : tie.Need-put-byte-requires
+put-byte-requires c κs =
+    let s = c .before .before .before .before in
+    room (s .pre) (leaves (10 ∷ []) (none (c .before)) (start s))
 
 put-decimal-requires : tie.Need-put-decimal-requires
 put-decimal-requires c κs =
@@ -61,9 +64,6 @@ put-rest-requires : tie.Need-put-rest-requires
 put-rest-requires c κs =
     let p = c .before .before .before .before in
     room (p .before .before .before .before .before .before .pre) (others p)
-
-returns-2 : tie.Need-returns-2
-returns-2 c = done (others (c .before .before .before .before .before .before .before)) (c .before .before .put-rest .ensures)
 
 pub put-fields-spec : {M : Type 1} → statement M
 put-fields-spec =

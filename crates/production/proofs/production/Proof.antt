@@ -25,12 +25,6 @@ kept q e =
     let a = entry q .args in
     produced (a .n) (a .d .now) (a .f .now) (a .budget) (a .out .now) (a .work .now) (e .answer) (e .outputs) (e .cleared)
 
-settle-requires : tie.Need-settle-requires
-settle-requires c κs =
-    let q = c .before .before .before .before in
-    let s = passed (q .check-start .ensures) (c .before .before .enum-told .given .1) in
-    (rows-settleable (s .matrix) (entry q .args .f .now) (s .start) (s .small), s .slices .0, s .slices .1 .0)
-
 returns-2 : tie.Need-returns-2
 returns-2 c =
     let p = c .before .before .before .before .before .before .before in
@@ -42,6 +36,12 @@ returns c =
     let k = c .before .before .before .before .before .before .before .before in
     let q = k .before .before in
     kept q (solved-stop (q .check-start .ensures) (k .checked .given .1) (c .before .before .before .before .refuse .ensures))
+
+settle-requires : tie.Need-settle-requires
+settle-requires c κs =
+    let q = c .before .before .before .before in
+    let s = passed (q .check-start .ensures) (c .before .before .enum-told .given .1) in
+    (rows-settleable (s .matrix) (entry q .args .f .now) (s .start) (s .small), s .slices .0, s .slices .1 .0)
 
 pub production-spec : {M : Type 1} → statement M
 production-spec =
