@@ -33,7 +33,7 @@ offset-on s es at most t fresh h =
     let same = t .bytes in
     omega arith
 
--- Theorem, for the reader: "No accepted file exceeds 12,883 bytes"
+-- Theorem, for the reader: no accepted file exceeds 12,883 bytes
 pub accepted-length : (s : List ℕ) (n : ℕ) (es : List Entry) → reading s ≡ Reading.table n es → length s ≤ fileLimit
 accepted-length s =
     accepted-holds s (λ _ _. length s ≤ fileLimit) (λ es at. (cell s 1 ≤ sectorLimit) × (at ≤ 2 + weight es))
