@@ -72,6 +72,11 @@ balanced t (e, (c, (r, (m, _)))) =
       covered = λ i h. leb-true _ _ (m i h);
     }
 
+-- Theorem, for the reader: with 3, 5 and 6 answered yes, so is 16. It refuses no table that would be accepted without it
+pub exports-follow : (t : Table) → TableAmounts t → (i : ℕ) → need t i + adjustedExports t i ≡ cell (production t) i + cell (imports t) i → cell (imports t) i ≤ need t i
+    → adjustedExports t i ≤ amountLimit
+exports-follow t a i row covered = omega (arith, a .columns 4 i, row, covered)
+
 -- a table that passes questions 1 to 6 and 16, and the slices that are lent beside it
 pub record Accepted (t : Table) (matrices lent : List ℕ) : Type 0 where
   pub sizes : TableSizes t
