@@ -5,9 +5,9 @@ use mathlib.Core.List.{List, [], _∷_, map}
 use Prim.Native.Nat.{ℕ, _+_, _*_}
 use Rattle.model.specs.Numbers.{one, tabulate, cell, at, transposed}
 use Rattle.model.specs.Table.{Table, absorption, inputCoefficient, valueAddedCoefficient, importCoefficient, domesticCoefficient, domesticDemand}
-use Rattle.model.specs.Rounds.{weighted, intermediate, round, rounds, changes, settling, settled, impliedDemand, unit, inverse, inverseRounds, dispersion}
+use Rattle.model.specs.Rounds.{weighted, intermediate, round, rounds, changes, settling, settled, impliedDemand, unit, inverse, inverseRounds, dispersion, impact, impactRounds}
 use Rattle.model.specs.Checks.{Report, accepts, refuses, output}
-use Rattle.model.specs.Calls.{coefficientsReport, inputCoefficients, valueAddedCoefficients, importCoefficients, domesticCoefficients, domesticDemands, productionReport, priceReport, impliedReport, inverseReport}
+use Rattle.model.specs.Calls.{coefficientsReport, inputCoefficients, valueAddedCoefficients, importCoefficients, domesticCoefficients, domesticDemands, productionReport, priceReport, impliedReport, inverseReport, impactReport}
 
 -- what a call says, and its output slices after it
 pub record Result : Type 0 where
@@ -50,6 +50,11 @@ module _ (n : ℕ) (d : List ℕ) where
   impliedOf y =
       let r = impliedReport n d y (n ∷ []) in
       record { said = r; outputs = output r n (impliedDemand n (at n d) y) ∷ [] }
+
+  abbrev impactOf : List ℕ → List ℕ → ℕ → Result
+  impactOf before after budget =
+      let r = impactReport n d before after budget (n ∷ n ∷ []) in
+      record { said = r; outputs = output r n (impact n (at n d) before after budget) ∷ [] }
 
   abbrev inverseOf : ℕ → Result
   inverseOf budget =
@@ -174,3 +179,35 @@ adjustedRows =
 pub worked-adjustment : map (λ (r : Row). r .given) adjustedRows ≡ map (λ (r : Row). r .stated) adjustedRows
 unfolding adjustedRows coefficientsReport inputCoefficients valueAddedCoefficients importCoefficients domesticCoefficients domesticDemands absorption inputCoefficient valueAddedCoefficient importCoefficient domesticCoefficient domesticDemand
 worked-adjustment = refl
+
+-- ---- document 02, ticket 4: what a scheme adds
+abbrev noRise : List (List ℕ)
+noRise = (0 ∷ 0 ∷ []) ∷ []
+
+-- a sheet on which the lower of two demands takes more rounds
+abbrev uneven : List ℕ
+uneven = 259750 ∷ 398963 ∷ 235662 ∷ 247592 ∷ []
+
+unfoldable pub impactRows : List Row
+impactRows =
+    -- 10 more for sector 0, at the least budget; one round less is enough for the first demand alone
+    impactOf 2 d f (635 ∷ 1280 ∷ []) 10 ⊳ (accepts (10 ∷ []) leaving ((12 ∷ 4 ∷ []) ∷ []))
+    ∷ impactOf 2 d f (635 ∷ 1280 ∷ []) 9 ⊳ (refuses 1 9 0 leaving noRise)
+    -- equal demands are accepted, and nothing rises; a budget of 0 is never enough
+    ∷ impactOf 2 d f f 4294967295 ⊳ (accepts (9 ∷ []) leaving noRise)
+    ∷ impactOf 2 d (0 ∷ 0 ∷ []) (0 ∷ 0 ∷ []) 0 ⊳ (refuses 1 9 0 leaving noRise)
+    -- the lower demand takes more rounds, and counts
+    ∷ productionOf 2 uneven (41 ∷ 24 ∷ []) 1400 ⊳ (accepts (9 ∷ []) leaving ((86 ∷ 58 ∷ []) ∷ []))
+    ∷ productionOf 2 uneven (42 ∷ 24 ∷ []) 1400 ⊳ (accepts (8 ∷ []) leaving ((87 ∷ 58 ∷ []) ∷ []))
+    ∷ impactOf 2 uneven (41 ∷ 24 ∷ []) (42 ∷ 24 ∷ []) 1400 ⊳ (accepts (9 ∷ []) leaving ((1 ∷ 0 ∷ []) ∷ []))
+    -- 17 at the first sector that falls, also where no round is allowed
+    ∷ impactOf 2 d f (626 ∷ 1279 ∷ []) 0 ⊳ (refuses 1 17 1 leaving noRise)
+    -- 8 of the first demand, then of the second, then 17; the place is the sector for both
+    ∷ impactOf 2 d (0 ∷ 2000000001 ∷ []) (2000000001 ∷ 0 ∷ []) 9 ⊳ (refuses 1 8 1 leaving noRise)
+    ∷ impactOf 2 d f (624 ∷ 2000000001 ∷ []) 9 ⊳ (refuses 1 8 1 leaving noRise)
+    ∷ []
+
+-- Theorem, for the reader: every case above is answered as stated
+pub worked-impact : map (λ (r : Row). r .given) impactRows ≡ map (λ (r : Row). r .stated) impactRows
+unfolding impactRows impactReport productionReport intermediate round rounds changes settling settled impact impactRounds
+worked-impact = refl

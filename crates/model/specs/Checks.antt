@@ -184,3 +184,7 @@ columnsSettle n d budget = each 9 n (λ j. settles n (at n d) (unit n j) budget)
 -- 10. a given production leaves every sector's demand at 0 or above
 abbrev pub demandLeft : ℕ → Sheet → Cells → Check
 demandLeft n c y = each 10 n (λ i. leb (intermediate n c (cell y) i) (cell y i))
+
+-- 17. document 02, ticket 4, asked after 8: the second demand is nowhere below the first
+abbrev pub notBelow : (n : ℕ) (before after : Cells) → Check
+notBelow n before after = each 17 n (λ i. leb (cell before i) (cell after i))

@@ -10,10 +10,10 @@ use lib.ListN.{length, getD, take, replicate}
 use Rattle.model.specs.Numbers.{Cells, cell, at, transposed}
 use Rattle.model.specs.Table.{Table, tableOf}
 use Rattle.model.specs.Bytes.{Bytes, padded}
-use Rattle.model.specs.Rounds.{settled, Settles, impliedDemand, inducedValueAdded, inducedImports, inverse, dispersion}
+use Rattle.model.specs.Rounds.{settled, Settles, impliedDemand, inducedValueAdded, inducedImports, inverse, dispersion, settling, impact}
 use Rattle.model.specs.Checks.{Report, accepts, verdict, output, reportRead, roundsOf, sectorsOf, bytesOf, tableAmounts, demandLimit}
-use Rattle.model.specs.Calls.{coefficientsReport, inputCoefficients, valueAddedCoefficients, importCoefficients, domesticCoefficients, domesticDemands, productionReport, priceReport, impliedReport, inducedReport, inverseReport}
-use Rattle.model.specs.Promises.{Distinguishes, Accurate, AccuratePrices, Returns, NotAbove}
+use Rattle.model.specs.Calls.{coefficientsReport, inputCoefficients, valueAddedCoefficients, importCoefficients, domesticCoefficients, domesticDemands, productionReport, priceReport, impliedReport, inducedReport, inverseReport, impactReport}
+use Rattle.model.specs.Promises.{Equal, Distinguishes, Accurate, AccuratePrices, Returns, NotAbove, NowhereBelow, Rises}
 use Rattle.model.specs.File.{Entry, Reading, reading, called, answerOf, flowsRead, columnRead, columnWord, fileLimit}
 use Rattle.model.specs.Writer.{tableEntries, written, fileBytes, writerReport, InForm, returned}
 use Rattle.model.specs.Page.{pageLimit, pageReport, pageBytes}
@@ -84,6 +84,24 @@ pub record Inverted (n : ℕ) (d : Cells) (budget : ℕ) (sheet₀ power₀ sens
   pub sheets : sheet ≡ output r (length sheet₀) (inverse n d budget)
   pub powers : power ≡ output r (length power₀) (dispersion n (at n (inverse n d budget)))
   pub sensitivities : sensitivity ≡ output r (length sensitivity₀) (dispersion n (transposed (at n (inverse n d budget))))
+
+-- What a scheme adds: the rise of production from a demand before to a demand after (document 02, ticket 4). `rises` says it of the two settled
+-- productions, whose counts of rounds `settles` has; the count of the answer is the larger one
+pub record Compared (n : ℕ) (d before after : Cells) (budget : ℕ) (out₀ work₀ : Cells) (r : Report) (out work : Cells) : Type 0 where
+  pub answer : r ≡ impactReport n d before after budget (length out₀ ∷ length work₀ ∷ [])
+  pub outputs : out ≡ output r (length out₀) (impact n (at n d) before after budget)
+  pub cleared : work ≡ replicate (length work₀) 0
+  -- accepted exactly where `production` accepts each demand, and the second is nowhere below the first
+  pub asks : r .accepted ≡ true
+      ↔ ((productionReport n d before budget (length out₀ ∷ length work₀ ∷ []) .accepted ≡ true)
+      × (productionReport n d after budget (length out₀ ∷ length work₀ ∷ []) .accepted ≡ true)
+      × NowhereBelow n before after)
+  pub settles : r .accepted ≡ true
+      → Settles n (at n d) before (settling n (at n d) before budget) (settled n (at n d) before budget)
+      × Settles n (at n d) after (settling n (at n d) after budget) (settled n (at n d) after budget)
+  pub rises : r .accepted ≡ true → Rises n before after (settled n (at n d) before budget) (settled n (at n d) after budget) out
+  -- equal demands give 0 in every cell, also where the call is refused
+  pub equal : Equal n before after → out ≡ replicate (length out₀) 0
 
 -- The slices that a table file is read into, or written from: x, F, E, M, V, X, G and the rises
 pub record Slices : Type 0 where

@@ -1,7 +1,7 @@
 -- What demands 2 and 3 promise of an accepted result. Proved in `theory`, and carried by the calls' own contracts.
 use mathlib.Core.Path.{_≡_}
 use mathlib.Core.Logic.{_↔_}
-use Prim.Native.Nat.{ℕ, _*_, _≤_, _<_}
+use Prim.Native.Nat.{ℕ, _+_, _*_, _-_, _≤_, _<_}
 use lib.ListN.{length}
 use Rattle.model.specs.Numbers.{Cells, Sheet, sum, cell, at, transposed, columnSum}
 use Rattle.model.specs.Table.{sectorLimit}
@@ -50,3 +50,19 @@ Returns n d y f = (g : Cells) (k : ℕ) → length g ≡ n → Settles n (at n d
 -- Going back and then forward need not return; what holds is that the production z settled from f is nowhere above y
 abbrev pub NotAbove : (n : ℕ) (d y f : Cells) → Type 0
 NotAbove n d y f = (z : Cells) (k : ℕ) → Settles n (at n d) f k z → (i : ℕ) → i < n → cell z i ≤ cell y i
+
+-- Document 02, ticket 4: "the second nowhere below the first", and what is added to sector i from the start s to the start t
+abbrev pub NowhereBelow : ℕ → Cells → Cells → Type 0
+NowhereBelow n s t = (i : ℕ) → i < n → cell s i ≤ cell t i
+
+abbrev pub added : Cells → Cells → ℕ → ℕ
+added s t i = cell t i - cell s i
+
+-- r is the rise from the amounts y to the amounts z, which are settled from the starts s and t
+pub record Rises (n : ℕ) (s t y z r : Cells) : Type 0 where
+  -- y with the rise is z: "no sector falls"
+  pub exact : (i : ℕ) → i < n → cell y i + cell r i ≡ cell z i
+  -- "each sector rises by at least what was added to it"
+  pub each : (i : ℕ) → i < n → added s t i ≤ cell r i
+  -- "the total rise is less than 20 × T + 20 × n", with T the total added
+  pub total : sum n (cell r) < 20 * sum n (added s t) + 20 * n

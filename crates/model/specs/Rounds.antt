@@ -3,7 +3,7 @@
 use mathlib.Core.Path.{_≡_}
 use mathlib.Core.Bool.{Bool, true, false, not, _&&_, cond}
 use mathlib.Core.List.{[]}
-use Prim.Native.Nat.{ℕ, zero, suc, _+_, _*_, _-_, _/_, _≤_, _<_}
+use Prim.Native.Nat.{ℕ, zero, suc, _+_, _*_, _-_, _/_, _≤_, _<_, max}
 use lib.Dec.{eqb, ltb}
 use lib.ListN.{length, take, drop}
 use Rattle.model.specs.Numbers.{Cells, Sheet, one, sum, largest, first, tabulate, cell, same, at, matrix, columnSum, allCells}
@@ -94,3 +94,12 @@ hasRow n cells sector = fewSectors n && eqb (n * n) cells && ltb sector n
 -- A sector's row of a sheet: n cells from sector × n; empty where there is none
 unfoldable pub rowSlice : (n : ℕ) (d : Cells) (sector : ℕ) → Cells
 rowSlice n d i = cond (hasRow n (length d) i) (take n (drop (i * n) d)) []
+
+-- What a scheme adds (document 02, ticket 4): the rise of each sector's production from the start s to the start t. The budget holds for each start
+-- separately
+unfoldable pub impact : (n : ℕ) (c : Sheet) (s t : Cells) (budget : ℕ) → Cells
+impact n c s t budget = tabulate n (λ i. cell (settled n c t budget) i - cell (settled n c s budget) i)
+
+-- its count of rounds: the larger of the two
+unfoldable pub impactRounds : (n : ℕ) (c : Sheet) (s t : Cells) (budget : ℕ) → ℕ
+impactRounds n c s t budget = max (settling n c s budget) (settling n c t budget)
