@@ -10,10 +10,10 @@ use lib.Dec.{eqb, leb, ltb}
 use lib.ListN.{length}
 use Rattle.model.specs.Numbers.{at, first, transposed}
 use Rattle.model.specs.Table.{Table}
-use Rattle.model.specs.Rounds.{settling, inverseRounds}
-use Rattle.model.specs.Checks.{Report, reportRead, reportTold, Check, amountLimit, balanceChecks, countedOn, bounded, refuses, verdict, columnSums, columnsSettle, demandLeft, demandLimit, inducedAmounts, lengths, productionTotal, riseLimit, single, size}
-use Rattle.model.specs.Calls.{coefficientsReport, domesticCoefficients, impliedReport, inducedReport, inverseReport, matrixChecks, priceReport, productionReport, settlingChecks, tableChecks}
-use Rattle.model.specs.Contracts.{Derived, Produced, Priced, Implied, Induced, Inverted, Slices, readingInto, FileRead, FileWritten, tableFrom, PagePrinted}
+use Rattle.model.specs.Rounds.{settling, inverseRounds, impactRounds}
+use Rattle.model.specs.Checks.{Report, reportRead, reportTold, Check, amountLimit, balanceChecks, bothSettle, countedOn, bounded, refuses, verdict, columnSums, columnsSettle, demandChecks, demandLeft, demandLimit, inducedAmounts, lengths, productionTotal, riseLimit, single, size}
+use Rattle.model.specs.Calls.{coefficientsReport, domesticCoefficients, impactReport, impliedReport, inducedReport, inverseReport, matrixChecks, priceReport, productionReport, settlingChecks, tableChecks}
+use Rattle.model.specs.Contracts.{Derived, Produced, Priced, Compared, Implied, Induced, Inverted, Slices, readingInto, FileRead, FileWritten, tableFrom, PagePrinted}
 use Rattle.model.specs.File.{Reading, answerOf}
 use Rattle.model.specs.Writer.{written, writerChecks, writerReport}
 use Rattle.model.specs.Page.{page, pageLimit, pageReport}
@@ -77,6 +77,12 @@ module _ (n : ℕ) (d : List ℕ) where
   inverse-number budget matrices lent =
       numbered (matrixChecks n d matrices lent ++ (columnsSettle n d budget ∷ [])) (inverseRounds n d budget ∷ []) refl
 
+  pub impact-number : (before after : List ℕ) (budget : ℕ) (lent : List ℕ) → Numbered (impactReport n d before after budget lent)
+  unfolding impactReport
+  impact-number before after budget lent =
+      numbered (matrixChecks n d [] (length before ∷ length after ∷ lent) ++ demandChecks n before after ++ bothSettle n (at n d) before after budget)
+      (impactRounds n (at n d) before after budget ∷ []) refl
+
 pub induced-number : (n : ℕ) (a m v F y lent : List ℕ) → Numbered (inducedReport n a m v F y lent)
 unfolding inducedReport
 induced-number n a m v F y lent =
@@ -118,6 +124,10 @@ module _ {number place : ℕ} {counts : List ℕ} where
     pub priced-told : {n budget : ℕ} {d w o u out work : List ℕ} → Priced n d w budget o u r out work
         → Priced n d w budget o u (reportTold number place counts) out work
     priced-told {n} {budget} {d} {w} made = rw (as-told r told (made .answer) (price-number n d w budget _)) made
+
+    pub compared-told : {n budget : ℕ} {d before after o w out work : List ℕ} → Compared n d before after budget o w r out work
+        → Compared n d before after budget o w (reportTold number place counts) out work
+    compared-told {n} {budget} {d} {before} {after} made = rw (as-told r told (made .answer) (impact-number n d before after budget _)) made
 
     pub implied-told : {n : ℕ} {d y o out : List ℕ} → Implied n d y o r out → Implied n d y o (reportTold number place counts) out
     implied-told {n} {d} {y} made = rw (as-told r told (made .answer) (implied-number n d y _)) made

@@ -1,14 +1,24 @@
-// Leaves over lent slices.
+// Leaves over lent slices and over counts.
 use model::Answer;
 use model::ONE;
 ghost use mathlib.Core.Path.{_≡_};
-ghost use Prim.Native.Nat.{ℕ, _*_, _^_, _<_, _≤_};
+ghost use Prim.Native.Nat.{ℕ, _*_, _^_, _<_, _≤_, max};
 ghost use lib.ListN.{length, replicate};
 ghost use Rattle.model.specs.Numbers.{at, cell, oriented, transposed};
 ghost use Rattle.model.specs.Table.{portion, share};
 ghost use Rattle.model.specs.Rounds.{intermediate, weighted};
 ghost use Rattle.model.specs.Checks.{amountLimit, output, report};
 ghost use Rattle.theory_rounds.specs.Bounds.{sumLimit};
+
+// The larger of two counts.
+pub fn larger(a: u32, b: u32) -> u32
+    ensures { λ r. ⌜ r ≡ max a b ⌝ }
+{
+    if a < b {
+        return b;
+    }
+    a
+}
 
 // Sets every cell to 0.
 pub fn fill_zero(s: &mut [u64])

@@ -14,7 +14,7 @@ use lib.Seq.{length-take-le, getD-take, getD-set-same, getD-set-other}
 use Rattle.model.specs.Numbers.{one, largest, cell, at}
 use Rattle.model.specs.Table.{sectorLimit}
 use Rattle.model.specs.Rounds.{settling, settled, unit, inverse, inverseRounds}
-use Rattle.model.specs.Checks.{Report, accepts, refuses, reportRounds, roundsOf, verdict, output, single, settles, columnsSettle}
+use Rattle.model.specs.Checks.{accepts, refuses, reportRounds, verdict, output, settles, columnsSettle}
 use Rattle.model.specs.Calls.{matrixChecks, inverseReport}
 use Rattle.model.specs.Promises.{AcceptedMatrix}
 use Rattle.model.specs.declared.Outcome.{Outcome}
@@ -23,7 +23,7 @@ use Rattle.theory.specs.Slices.{Each}
 use Rattle.inverse_columns.specs.Filling.{ColumnFilled}
 use Rattle.theory.proofs.Lists.{All, all-none, all-more, length-tabulate, cell-tabulate, tabulated}
 use Rattle.theory.proofs.Matrices.{matrix-cell, matrix-made}
-use Rattle.theory.proofs.Verdicts.{passed, failed-each, accepted-all, all-pass-parts, accepted-matrix}
+use Rattle.theory.proofs.Verdicts.{passed, failed-each, single-accepted, single-refused, accepted-all, all-pass-parts, accepted-matrix}
 
 -- ---- the demand of one in sector j
 module _ (n j : ℕ) where
@@ -54,15 +54,6 @@ module _ (n j : ℕ) where
       split : (k : ℕ) → k < sectorLimit → (b : Bool) → eqb k j ≡ b → cell array k ≡ cond b one 0
       split k l true e = rw (eqb-true k j e) (getD-set-same (replicate sectorLimit 0) j one 0 (lt-of-lt-of-le h few))
       split k l false e = getD-set-other (replicate sectorLimit 0) j k one 0 (eqb-false k j e) ∙ getD-replicate sectorLimit k 0 0 l
-
--- ---- a check with one place, answered
-one-passed : (q m k : ℕ) (b : Bool) → accepts (k ∷ []) ≡ verdict (single q b ∷ []) (m ∷ []) → (b ≡ true) × (k ≡ m)
-one-passed q m k true e = (refl, ap (λ (r : Report). roundsOf r) e)
-one-passed q m k false e = absurd (false≢true (ap (λ (r : Report). r .accepted) (sym e)))
-
-one-failed : (q m a p : ℕ) (b : Bool) → refuses 1 a p ≡ verdict (single q b ∷ []) (m ∷ []) → b ≡ false
-one-failed q m a p true e = absurd (false≢true (ap (λ (r : Report). r .accepted) e))
-one-failed q m a p false e = refl
 
 module _ (n : ℕ) (d : List ℕ) (budget : ℕ) where
   -- column j of the inverse, and its count of rounds
@@ -95,7 +86,7 @@ module _ (n : ℕ) (d : List ℕ) (budget : ℕ) where
     -- one column more
     pub filled-more : {k m : ℕ} → r ≡ Settled k → m ≡ max most k → length after ≡ length sheet → Filled (j + 1) after m
     filled-more {k} e g l =
-        let p = one-passed 9 (count j) k (settles n (at n d) (unit n j) budget) (sym (ap reportRounds e) ∙ C .answer) in
+        let p = single-accepted 9 (count j) k (settles n (at n d) (unit n j) budget) (sym (ap reportRounds e) ∙ C .answer) in
         record {
           cells = l ∙ F .cells;
           counts = g ∙ rw (add-one, F .counts, p .1);
@@ -109,7 +100,7 @@ module _ (n : ℕ) (d : List ℕ) (budget : ℕ) where
     pub filled-stop : {q p : ℕ} → j < n → r ≡ Refused q p → refuses 1 9 j ≡ verdict (columnsSettle n d budget ∷ []) (inverseRounds n d budget ∷ [])
     filled-stop {q} {p} h e =
         sym (failed-each 9 n (columnsSettle n d budget .passes) [] (inverseRounds n d budget ∷ []) j h (F .settle)
-        (one-failed 9 (count j) q p (settles n (at n d) (unit n j) budget) (sym (ap reportRounds e) ∙ C .answer)))
+        (single-refused 9 (count j) q p (settles n (at n d) (unit n j) budget) (sym (ap reportRounds e) ∙ C .answer)))
 
   -- all of them
   pub filled-all : {j : ℕ} {sheet : List ℕ} {most : ℕ} → Filled j sheet most → 1 ≤ n → j ≤ n → n ≤ j

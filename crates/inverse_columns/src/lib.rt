@@ -1,5 +1,6 @@
 // The Leontief inverse, column by column.
 use cells::fill_zero;
+use cells::larger;
 use cells::put_column;
 use checks::check_matrix;
 use model::Answer;
@@ -9,7 +10,7 @@ use model::SECTORS;
 use settle_loop::settle;
 ghost use mathlib.Core.List.{[], _∷_};
 ghost use mathlib.Core.Path.{_≡_};
-ghost use Prim.Native.Nat.{_*_, _<_, max};
+ghost use Prim.Native.Nat.{_*_, _<_};
 ghost use lib.ListN.{length};
 ghost use Rattle.model.specs.Rounds.{inverse, inverseRounds};
 ghost use Rattle.model.specs.Checks.{report, reportRounds, verdict, output, columnsSettle};
@@ -36,16 +37,6 @@ fn one_column(n: usize, d: &[u64], budget: u32, j: usize, sheet: &mut [u64]) -> 
     );
     put_column(n, j, &amounts[..n], sheet);
     outcome
-}
-
-// The larger of two counts.
-fn larger(a: u32, b: u32) -> u32
-    ensures { λ r. ⌜ r ≡ max a b ⌝ }
-{
-    if a < b {
-        return b;
-    }
-    a
 }
 
 // The Leontief inverse, column by column, with the largest count of a column; or number 9 at the first column that does not settle, with the

@@ -7,7 +7,7 @@ use lib.ListN.{length}
 use Rattle.model.specs.Numbers.{Cells, Sheet, tabulate, at, matrix, transposed}
 use Rattle.model.specs.Table.{Table, inputCoefficient, valueAddedCoefficient, importCoefficient, domesticCoefficient, domesticDemand}
 use Rattle.model.specs.Rounds.{settling, inverseRounds, impactRounds}
-use Rattle.model.specs.Checks.{Report, Check, verdict, single, size, lengths, tableAmounts, inducedAmounts, balanceChecks, columnSums, bounded, demandLimit, riseLimit, productionTotal, settles, columnsSettle, demandLeft, notBelow}
+use Rattle.model.specs.Checks.{Report, Check, verdict, single, size, lengths, tableAmounts, inducedAmounts, balanceChecks, columnSums, bounded, demandLimit, riseLimit, productionTotal, settles, columnsSettle, demandLeft, demandChecks, bothSettle}
 
 module _ (t : Table) where
   -- The results of sheets from a table: a, v, m, d and f
@@ -70,15 +70,9 @@ module _ (n : ℕ) (d : Cells) where
 
   -- What a scheme adds (document 02, ticket 4) "asks what production asks, of the first demand and then of the second, at each question", and 17
   -- after 8: 1, 2, 7, 8, 8, 17, 9, 9. Its result: `impact n (at n d) before after budget`
-  abbrev pub impactDemands : (before after : Cells) → List Check
-  impactDemands before after = bounded 8 0 demandLimit before ∷ bounded 8 0 demandLimit after ∷ notBelow n before after ∷ []
-
-  abbrev pub impactSettles : (before after : Cells) (budget : ℕ) → List Check
-  impactSettles before after budget = single 9 (settles n (at n d) before budget) ∷ single 9 (settles n (at n d) after budget) ∷ []
-
   unfoldable pub impactReport : (before after : Cells) (budget : ℕ) (lent : List ℕ) → Report
   impactReport before after budget lent =
-      verdict (matrixChecks [] (length before ∷ length after ∷ lent) ++ impactDemands before after ++ impactSettles before after budget)
+      verdict (matrixChecks [] (length before ∷ length after ∷ lent) ++ demandChecks n before after ++ bothSettle n (at n d) before after budget)
       (impactRounds n (at n d) before after budget ∷ [])
 
 -- Induced amounts ask 1, 2, 3, 8; their results: `inducedValueAdded n v y` and `inducedImports n (at n a) m F y`

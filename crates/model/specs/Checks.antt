@@ -188,3 +188,11 @@ demandLeft n c y = each 10 n (λ i. leb (intermediate n c (cell y) i) (cell y i)
 -- 17. document 02, ticket 4, asked after 8: the second demand is nowhere below the first
 abbrev pub notBelow : (n : ℕ) (before after : Cells) → Check
 notBelow n before after = each 17 n (λ i. leb (cell before i) (cell after i))
+
+-- what is asked of two demands, in order: 8 of the first, 8 of the second, 17
+abbrev pub demandChecks : (n : ℕ) (before after : Cells) → List Check
+demandChecks n before after = bounded 8 0 demandLimit before ∷ bounded 8 0 demandLimit after ∷ notBelow n before after ∷ []
+
+-- and then of their rounds: 9 of the first, 9 of the second
+abbrev pub bothSettle : (n : ℕ) (c : Sheet) (before after : Cells) (budget : ℕ) → List Check
+bothSettle n c before after budget = single 9 (settles n c before budget) ∷ single 9 (settles n c after budget) ∷ []

@@ -16,8 +16,8 @@ ghost use Rattle.model.specs.Numbers.{at, cell, transposed};
 ghost use Rattle.model.specs.Checks.{reportRounds, demandLimit};
 ghost use Rattle.model.specs.Promises.{AcceptedMatrix};
 ghost use Rattle.model.specs.Contracts.{Priced, Produced};
-ghost use Rattle.theory_rounds.specs.Search.{Settlement};
-ghost use Rattle.production.specs.Solving.{Checked, Cleared};
+ghost use Rattle.theory_rounds.specs.Search.{Cleared, Settlement};
+ghost use Rattle.production.specs.Solving.{Checked};
 
 // Questions 1, 2, 7 and 8 of a start and its limit.
 fn check_start(
@@ -39,7 +39,7 @@ fn check_start(
 }
 
 // A refusal, with 0 in every output and work cell.
-fn refuse(number: u8, place: usize, out: &mut [u64], work: &mut [u64]) -> Outcome
+pub fn refuse(number: u8, place: usize, out: &mut [u64], work: &mut [u64]) -> Outcome
     ensures { λ r. ⌜ Cleared number place (length (now (out .entry))) (length (now (work .entry))) (reportRounds r) (now (out .exit)) (now (work .exit)) ⌝ }
 {
     fill_zero(out);

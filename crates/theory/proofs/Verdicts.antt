@@ -10,7 +10,7 @@ use lib.Dec.{ltb, eqb}
 use lib.ListN.{length, replicate}
 use Rattle.model.specs.Numbers.{sum, first, all, at, transposed}
 use Rattle.model.specs.Table.{sectorLimit}
-use Rattle.model.specs.Checks.{Report, Check, accepts, refuses, report, verdict, output, each, single, size, lengths, bounded, countedOn, columnLimit}
+use Rattle.model.specs.Checks.{Report, Check, accepts, refuses, report, roundsOf, verdict, output, each, single, size, lengths, bounded, countedOn, columnLimit}
 use Rattle.model.specs.Calls.{matrixChecks}
 use Rattle.model.specs.declared.Answer.{Answer}
 use Rattle.model.specs.declared.Answer.the-variants.{Accepted, Refused}
@@ -47,6 +47,15 @@ module _ (number : ℕ) {b : Bool} (qs : List Check) (ks : List ℕ) where
 
   pub single-failed : b ≡ false → verdict (single number b ∷ qs) ks ≡ refuses (length ks) number 0
   single-failed e = failed (single number b) qs ks 0 (le-refl 1) (all-none (λ _. b)) e
+
+-- such a check alone, with a count: what its answer says
+pub single-accepted : (number m k : ℕ) (b : Bool) → accepts (k ∷ []) ≡ verdict (single number b ∷ []) (m ∷ []) → (b ≡ true) × (k ≡ m)
+single-accepted number m k true e = (refl, ap (λ (r : Report). roundsOf r) e)
+single-accepted number m k false e = absurd (false≢true (ap (λ (r : Report). r .accepted) (sym e)))
+
+pub single-refused : (number m a p : ℕ) (b : Bool) → refuses 1 a p ≡ verdict (single number b ∷ []) (m ∷ []) → b ≡ false
+single-refused number m a p true e = absurd (false≢true (ap (λ (r : Report). r .accepted) e))
+single-refused number m a p false e = refl
 
 -- ---- a loop that asks a check place by place, from i = 0: nothing asked yet, one place more, and the ways out
 pub record Scan (q : Check) (i : ℕ) : Type 0 where
@@ -140,11 +149,11 @@ accepted-counts (q ∷ qs) ks a =
     asked (λ r. r .accepted ≡ true → r .counts ≡ ks) q qs ks (λ _ a. absurd (false≢true a)) (λ _. accepted-counts qs ks) a
 
 -- checks that refuse refuse whatever follows, with as many counts as the call has
-refuse-on : (ps qs : List Check) (ks : List ℕ) (a p : ℕ) → verdict ps [] ≡ refuses 0 a p → verdict (ps ++ qs) ks ≡ refuses (length ks) a p
-refuse-on [] qs ks a p e = absurd (false≢true (sym (ap (λ (r : Report). r .accepted) e)))
-refuse-on (q ∷ ps) qs ks a p e =
-    asked-both (λ r s. r ≡ refuses 0 a p → s ≡ refuses (length ks) a p) q ps (ps ++ qs) [] ks
-    (λ _ e. ap₂ (refuses (length ks)) (ap (λ (r : Report). r .number) e) (ap (λ (r : Report). r .place) e)) (λ _. refuse-on ps qs ks a p) e
+pub refuse-on : (ps qs : List Check) (js ks : List ℕ) (a p : ℕ) → verdict ps js ≡ refuses (length js) a p → verdict (ps ++ qs) ks ≡ refuses (length ks) a p
+refuse-on [] qs js ks a p e = absurd (false≢true (sym (ap (λ (r : Report). r .accepted) e)))
+refuse-on (q ∷ ps) qs js ks a p e =
+    asked-both (λ r s. r ≡ refuses (length js) a p → s ≡ refuses (length ks) a p) q ps (ps ++ qs) js ks
+    (λ _ e. ap₂ (refuses (length ks)) (ap (λ (r : Report). r .number) e) (ap (λ (r : Report). r .place) e)) (λ _. refuse-on ps qs js ks a p) e
 
 -- a call that has asked some checks and was answered a: where they refuse it is done, where they accept it goes on with the others
 module _ (ps : List Check) {a : Answer} (said : report a ≡ verdict ps []) where
@@ -155,7 +164,7 @@ module _ (ps : List Check) {a : Answer} (said : report a ≡ verdict ps []) wher
   answered-on qs ks e = sym (pass-on ps qs ks (answered-pass e))
 
   pub answered-stop : (qs : List Check) (ks : List ℕ) {q p : ℕ} → a ≡ Refused q p → refuses (length ks) q p ≡ verdict (ps ++ qs) ks
-  answered-stop qs ks e = sym (refuse-on ps qs ks _ _ (sym said ∙ ap report e))
+  answered-stop qs ks e = sym (refuse-on ps qs [] ks _ _ (sym said ∙ ap report e))
 
   -- a refusal that is returned as it was answered
   pub answered-end : (qs : List Check) {q p : ℕ} → a ≡ Refused q p → report a ≡ verdict (ps ++ qs) []

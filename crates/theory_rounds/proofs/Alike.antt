@@ -49,8 +49,8 @@ module _ (n : ℕ) (c e : ℕ → ℕ → ℕ) (alike : Alike n c e) where
     settled-alike budget = ap (rounds n c s) (settling-alike budget) ∙ rounds-alike (settling n e s budget)
 
     -- so what rounds along the one settle at is what they settle at along the other
-    pub settlement-alike : {budget : ℕ} {r : Report} {out work : List ℕ} → Settlement n c s budget r out work → Settlement n e s budget r out work
-    settlement-alike {budget} {r} σ =
+    pub settlement-alike : (budget : ℕ) {r : Report} {out work : List ℕ} → Settlement n c s budget r out work → Settlement n e s budget r out work
+    settlement-alike budget {r} σ =
         record {
           answer = σ .answer ∙ ap (λ (k : ℕ). verdict (single 9 (leb k budget) ∷ []) (k ∷ [])) (settling-alike budget);
           outputs = σ .outputs ∙ ap (output r n) (settled-alike budget);

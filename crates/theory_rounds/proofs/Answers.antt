@@ -1,4 +1,5 @@
--- What the checks of production and price say of their slices, and what question 9 says of the rounds. Assumes nothing.
+-- What the checks of production and price say of their slices, what question 9 says of the rounds, and what a call over them answers and leaves.
+-- Assumes nothing.
 use mathlib.Core.Path.{_≡_, sym, ap, subst⁻¹, _∙_}
 use mathlib.Core.Bool.{true, false}
 use mathlib.Core.List.{List, [], _∷_, _++_}
@@ -7,17 +8,40 @@ use native.Mathlib.Omega.{arith}
 use native.Mathlib.Nat.{le-refl, lt-suc-self}
 use borrow.Author.Tests.{le-leb, lt-leb, leb-true}
 use lib.Dec.{leb}
-use lib.ListN.{length}
+use lib.ListN.{length, replicate}
 use Rattle.model.specs.Numbers.{one, sum, cell, at}
 use Rattle.model.specs.Table.{sectorLimit}
 use Rattle.model.specs.Rounds.{intermediate, changes, settling, settled, Settles}
-use Rattle.model.specs.Checks.{Report, accepts, refuses, roundsOf, output, verdict, size, lengths, amountLimit, inducedAmounts, bounded, productionLimit, productionTotal, demandLeft, single, settles}
+use Rattle.model.specs.Checks.{Report, Check, accepts, refuses, report, roundsOf, output, verdict, size, lengths, amountLimit, inducedAmounts, bounded, productionLimit, productionTotal, demandLeft, single, settles}
 use Rattle.model.specs.Calls.{matrixChecks, settlingChecks, settlingReport, impliedReport, inducedReport}
 use Rattle.model.specs.Promises.{AcceptedMatrix}
+use Rattle.model.specs.declared.Answer.{Answer}
+use Rattle.model.specs.declared.Answer.the-variants.{Accepted, Refused}
 use Rattle.theory.specs.Slices.{Each}
+use Rattle.theory_rounds.specs.Search.{Solved, Cleared}
 use Rattle.theory.proofs.Lists.{All}
 use Rattle.theory_rounds.proofs.Settling.{counted, found, not-found}
-use Rattle.theory.proofs.Verdicts.{Passes, AllPass, accepted-all, accepted-counts, all-pass-parts, output-given, sized, accepted-matrix, single-passed, single-failed}
+use Rattle.theory.proofs.Verdicts.{Passes, AllPass, accepted-all, accepted-counts, all-pass-parts, output-given, sized, accepted-matrix, single-passed, single-failed, answered-on, answered-stop}
+
+-- ---- a call that has asked some checks and then settles, with the checks that follow: where one of the first fails, and where none does
+module _ (asked : List Check) {a : Answer} (said : report a ≡ verdict asked []) (last : List Check) {count : ℕ} {result : List ℕ} {outs works : ℕ} {r : Report} {out work : List ℕ} where
+  pub solved-stop : {number place : ℕ} → a ≡ Refused number place → Cleared number place outs works r out work
+      → Solved (asked ++ last) count result outs works r out work
+  solved-stop e κ =
+      record {
+        answer = κ .answer ∙ answered-stop asked said last (count ∷ []) e;
+        outputs = κ .outputs ∙ sym (ap (λ (r : Report). output r outs result) (κ .answer));
+        cleared = κ .cleared;
+      }
+
+  pub solved-on : {n : ℕ} → a ≡ Accepted → outs ≡ n → works ≡ n → Solved last count result n n r out work
+      → Solved (asked ++ last) count result outs works r out work
+  solved-on e o w σ =
+      record {
+        answer = σ .answer ∙ answered-on asked said last (count ∷ []) e;
+        outputs = σ .outputs ∙ ap (λ (k : ℕ). output r k result) (sym o);
+        cleared = σ .cleared ∙ ap (λ (k : ℕ). replicate k 0) (sym w);
+      }
 
 -- questions 1, 2, 7 and 8 pass
 pub record Started (n : ℕ) (d : List ℕ) (limit : ℕ) (s lent : List ℕ) : Type 0 where

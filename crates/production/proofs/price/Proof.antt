@@ -10,7 +10,7 @@ use Rattle.model.specs.Checks.{Report, riseLimit}
 use Rattle.model.specs.Calls.{priceReport}
 use Rattle.model.specs.Contracts.{Priced}
 use Rattle.theory_rounds.proofs.Promises.{priced}
-use Rattle.production.proofs.Solving.{Solved, solved-stop, passed, solved-on}
+use Rattle.production.proofs.Solving.{Called, called-stop, passed, called-on}
 use Rattle.production.proofs.price.Statement.{statement}
 use Rattle.production.proofs.price.Tie as tie
 
@@ -19,7 +19,7 @@ entry q = q .before .before .before .before .before
 
 -- what is answered and left keeps the promises
 kept : (q : tie.After-check-start) {r : Report} {out work : List ℕ} → let a = entry q .args in
-    Solved (a .n) (a .d .now) (transposed (at (a .n) (a .d .now))) riseLimit (a .w .now) (a .budget) (length (a .out .now)) (length (a .work .now)) r out work
+    Called (a .n) (a .d .now) (transposed (at (a .n) (a .d .now))) riseLimit (a .w .now) (a .budget) (length (a .out .now)) (length (a .work .now)) r out work
     → Priced (a .n) (a .d .now) (a .w .now) (a .budget) (a .out .now) (a .work .now) r out work
 unfolding priceReport
 kept q e =
@@ -35,13 +35,15 @@ returns-2 : tie.Need-returns-2
 returns-2 c =
     let p = c .before .before .before .before .before .before .before in
     let q = p .before .before in
-    kept q (solved-on (q .check-start .ensures) (p .enum-told .given .1) (c .before .before .before .before .settle-columns .ensures))
+    let a = entry q .args in
+    kept q (called-on (q .check-start .ensures) (transposed (at (a .n) (a .d .now))) (a .budget) (p .enum-told .given .1) (c .before .before .before .before .settle-columns .ensures))
 
 returns : tie.Need-returns
 returns c =
     let k = c .before .before .before .before .before .before .before .before in
     let q = k .before .before in
-    kept q (solved-stop (q .check-start .ensures) (k .checked .given .1) (c .before .before .before .before .refuse .ensures))
+    let a = entry q .args in
+    kept q (called-stop (q .check-start .ensures) (transposed (at (a .n) (a .d .now))) (a .budget) (k .checked .given .1) (c .before .before .before .before .refuse .ensures))
 
 pub price-spec : {M : Type 1} → statement M
 price-spec =

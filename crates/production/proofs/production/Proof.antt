@@ -9,7 +9,7 @@ use Rattle.model.specs.Calls.{productionReport}
 use Rattle.model.specs.Contracts.{Produced}
 use Rattle.theory_rounds.proofs.Alike.{rows-settleable}
 use Rattle.theory_rounds.proofs.Promises.{produced}
-use Rattle.production.proofs.Solving.{Solved, solved-stop, passed, solved-on}
+use Rattle.production.proofs.Solving.{Called, called-stop, passed, called-on}
 use Rattle.production.proofs.production.Statement.{statement}
 use Rattle.production.proofs.production.Tie as tie
 
@@ -18,7 +18,7 @@ entry q = q .before .before .before .before .before
 
 -- what is answered and left keeps the promises
 kept : (q : tie.After-check-start) {r : Report} {out work : List ℕ} → let a = entry q .args in
-    Solved (a .n) (a .d .now) (at (a .n) (a .d .now)) demandLimit (a .f .now) (a .budget) (length (a .out .now)) (length (a .work .now)) r out work
+    Called (a .n) (a .d .now) (at (a .n) (a .d .now)) demandLimit (a .f .now) (a .budget) (length (a .out .now)) (length (a .work .now)) r out work
     → Produced (a .n) (a .d .now) (a .f .now) (a .budget) (a .out .now) (a .work .now) r out work
 unfolding productionReport
 kept q e =
@@ -29,13 +29,15 @@ returns-2 : tie.Need-returns-2
 returns-2 c =
     let p = c .before .before .before .before .before .before .before in
     let q = p .before .before in
-    kept q (solved-on (q .check-start .ensures) (p .enum-told .given .1) (c .before .before .before .before .settle .ensures))
+    let a = entry q .args in
+    kept q (called-on (q .check-start .ensures) (at (a .n) (a .d .now)) (a .budget) (p .enum-told .given .1) (c .before .before .before .before .settle .ensures))
 
 returns : tie.Need-returns
 returns c =
     let k = c .before .before .before .before .before .before .before .before in
     let q = k .before .before in
-    kept q (solved-stop (q .check-start .ensures) (k .checked .given .1) (c .before .before .before .before .refuse .ensures))
+    let a = entry q .args in
+    kept q (called-stop (q .check-start .ensures) (at (a .n) (a .d .now)) (a .budget) (k .checked .given .1) (c .before .before .before .before .refuse .ensures))
 
 settle-requires : tie.Need-settle-requires
 settle-requires c κs =

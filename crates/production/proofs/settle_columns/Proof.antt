@@ -63,7 +63,7 @@ returns c =
     let q = c .before .before .before .before .before .before .before .before .before in
     let a = entry q .args in
     let n = a .n in
-    settlement-alike n (at n (rows q)) (transposed (at n (a .d .now))) (q .transpose .ensures) (a .start .now)
+    settlement-alike n (at n (rows q)) (transposed (at n (a .d .now))) (q .transpose .ensures) (a .start .now) (a .budget)
     (subst (λ (l : List ℕ). Settlement n (at n l) (a .start .now) (a .budget) (reportRounds (r .result)) (r .last .1 .1 .1 .1 .0) (r .last .1 .1 .1 .1 .1 .0)) (stored q) (r .ensures))
 
 pub settle-columns-spec : {M : Type 1} → statement M

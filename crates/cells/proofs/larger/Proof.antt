@@ -1,7 +1,7 @@
--- `inverse_columns::larger` meets its contract. Assumes nothing.
+-- `cells::larger` meets its contract. Assumes nothing.
 use borrow.Author.Needs.{needs}
-use Rattle.inverse_columns.proofs.larger.Statement.{statement}
-use Rattle.inverse_columns.proofs.larger.Tie as tie
+use Rattle.cells.proofs.larger.Statement.{statement}
+use Rattle.cells.proofs.larger.Tie as tie
 
 returns : tie.Need-returns
 returns c = search needs

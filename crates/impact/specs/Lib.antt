@@ -1,0 +1,2 @@
+-- What the inner contracts cite beside the definitions of `model`.
+pub mod Comparing

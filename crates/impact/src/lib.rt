@@ -1,0 +1,76 @@
+// What a scheme adds: the rise of production from one demand to another.
+use cells::fill_zero;
+use cells::larger;
+use impact_checks::check_impact;
+use model::Answer;
+use model::Outcome;
+use model::SECTORS;
+use production::refuse;
+use settle_loop::settle;
+ghost use mathlib.Core.Path.{_≡_};
+ghost use Prim.Native.Nat.{ℕ, _<_, _≤_};
+ghost use lib.ListN.{length};
+ghost use Rattle.model.specs.Numbers.{at, cell, tabulate};
+ghost use Rattle.model.specs.Checks.{reportRounds, demandLimit};
+ghost use Rattle.model.specs.Promises.{AcceptedMatrix, NowhereBelow, added};
+ghost use Rattle.model.specs.Contracts.{Compared};
+ghost use Rattle.impact.specs.Comparing.{BothSettled};
+
+// Takes the first production off the second, which `out` holds.
+fn subtract(n: usize, first: &[u64], out: &mut [u64])
+    requires { ⌜ (length (now first) ≡ n) × (length (now out) ≡ n) × NowhereBelow n (now first) (now out) ⌝ }
+    ensures { λ _. ⌜ now (out .exit) ≡ tabulate n (added (now (first .entry)) (now (out .entry))) ⌝ }
+{
+    for i in 0..n {
+        out[i] = out[i] - first[i];
+    }
+}
+
+// Settles both demands and leaves the rise, with the larger count of rounds; or number 9, with the outputs at 0. The work cells are cleared.
+fn settle_both(
+    n: usize,
+    d: &[u64],
+    before: &[u64],
+    after: &[u64],
+    budget: u32,
+    out: &mut [u64],
+    work: &mut [u64],
+) -> Outcome
+    requires { ⌜ AcceptedMatrix n (now d) × (length (now before) ≡ n) × (length (now after) ≡ n) × (length (now out) ≡ n) × (length (now work) ≡ n) ⌝ }
+    requires { ⌜ ((i : ℕ) → i < n → cell (now before) i ≤ demandLimit) × ((i : ℕ) → i < n → cell (now after) i ≤ demandLimit) × NowhereBelow n (now before) (now after) ⌝ }
+    ensures { λ r. ⌜ BothSettled n (at n (now (d .entry))) (now (before .entry)) (now (after .entry)) budget (reportRounds r) (now (out .exit)) (now (work .exit)) ⌝ }
+{
+    let mut first = [0u64; SECTORS];
+    let earlier = settle(n, d, before, budget, &mut first[..n], work);
+    let Outcome::Settled { rounds: k } = earlier else {
+        fill_zero(out);
+        return earlier;
+    };
+    let later = settle(n, d, after, budget, out, work);
+    let Outcome::Settled { rounds: m } = later else {
+        return later;
+    };
+    subtract(n, &first[..n], out);
+    Outcome::Settled {
+        rounds: larger(k, m),
+    }
+}
+
+// The rise of each sector's production from the demand `before` to the demand `after`. What it promises is `Compared`.
+pub fn impact(
+    n: usize,
+    d: &[u64],
+    before: &[u64],
+    after: &[u64],
+    budget: u32,
+    out: &mut [u64],
+    work: &mut [u64],
+) -> Outcome
+    ensures { λ r. ⌜ Compared n (now (d .entry)) (now (before .entry)) (now (after .entry)) budget (now (out .entry)) (now (work .entry)) (reportRounds r) (now (out .exit)) (now (work .exit)) ⌝ }
+{
+    let checked = check_impact(n, d, before, after, out.len(), work.len());
+    match checked {
+        Answer::Refused { number, place } => refuse(number, place, out, work),
+        Answer::Accepted => settle_both(n, d, before, after, budget, out, work),
+    }
+}
