@@ -4,7 +4,7 @@
 #include <stdbool.h>
 #include <string.h>
 
-enum { ONE = 1000000, COLUMN = 950000, AMOUNT = 1000000000, SECTORS = 40, COLUMNS = 7, MARKS = SECTORS + COLUMNS };
+enum { ONE = 1000000, COLUMN = 950000, AMOUNT = 1000000000, DEMAND = 2000000000, SECTORS = 40, COLUMNS = 7, MARKS = SECTORS + COLUMNS };
 
 // One round along the rows. Did it change no sector?
 static bool turn_rows(
@@ -121,7 +121,7 @@ void c_production(
     uint8_t *number, size_t *place, uint32_t *rounds)
 {
     (void)d_length, (void)start_length, (void)out_length, (void)work_length;
-    solve(n, d, false, 2000000000, start, budget, out, work, number, place, rounds);
+    solve(n, d, false, DEMAND, start, budget, out, work, number, place, rounds);
 }
 
 void c_price(
@@ -131,6 +131,56 @@ void c_price(
 {
     (void)d_length, (void)start_length, (void)out_length, (void)work_length;
     solve(n, d, true, 1000000000, start, budget, out, work, number, place, rounds);
+}
+
+// Question 17: is the second demand nowhere below the first?
+static uint8_t ask_second(size_t n, const uint64_t *before, const uint64_t *after, size_t *place)
+{
+    for (size_t i = 0; i < n; i++)
+        if (after[i] < before[i]) {
+            *place = i;
+            return 17;
+        }
+    return 0;
+}
+
+// Both productions, and in out the second less the first: the larger count, or 0 past the budget.
+static uint32_t settle_both(
+    size_t n, const uint64_t *d, const uint64_t *before, const uint64_t *after, uint32_t budget, uint64_t *out, uint64_t *work)
+{
+    uint64_t without[SECTORS];
+    uint32_t first = settle(n, d, false, before, budget, without, work);
+    uint32_t second = first == 0 ? 0 : settle(n, d, false, after, budget, out, work);
+    if (second == 0)
+        return 0;
+    for (size_t i = 0; i < n; i++)
+        out[i] -= without[i];
+    return first < second ? second : first;
+}
+
+void c_impact(
+    size_t n, const uint64_t *d, size_t d_length, const uint64_t *before, size_t before_length,
+    const uint64_t *after, size_t after_length, uint32_t budget,
+    uint64_t *out, size_t out_length, uint64_t *work, size_t work_length,
+    uint8_t *number, size_t *place, uint32_t *rounds)
+{
+    (void)d_length, (void)before_length, (void)after_length, (void)out_length, (void)work_length;
+    *rounds = 0;
+    *number = ask_sheet(n, d, place);
+    if (*number == 0)
+        *number = ask_start(n, before, DEMAND, place);
+    if (*number == 0)
+        *number = ask_start(n, after, DEMAND, place);
+    if (*number == 0)
+        *number = ask_second(n, before, after, place);
+    if (*number == 0) {
+        *rounds = settle_both(n, d, before, after, budget, out, work);
+        if (*rounds == 0)
+            *number = 9;
+    }
+    if (*number != 0)
+        memset(out, 0, n * sizeof *out);
+    memset(work, 0, n * sizeof *work);
 }
 
 // Each column sum and each row sum of a sheet against their mean, in millionths.

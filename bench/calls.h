@@ -11,6 +11,12 @@ typedef void settling(
     uint64_t *out, size_t out_length, uint64_t *work, size_t work_length,
     uint8_t *number, size_t *place, uint32_t *rounds);
 
+typedef void adding(
+    size_t n, const uint64_t *d, size_t d_length, const uint64_t *before, size_t before_length,
+    const uint64_t *after, size_t after_length, uint32_t budget,
+    uint64_t *out, size_t out_length, uint64_t *work, size_t work_length,
+    uint8_t *number, size_t *place, uint32_t *rounds);
+
 typedef void inverting(
     size_t n, const uint64_t *d, size_t d_length, uint32_t budget, uint64_t *sheet, size_t sheet_length,
     uint64_t *power, size_t power_length, uint64_t *sensitivity, size_t sensitivity_length,
@@ -33,6 +39,7 @@ typedef void writing(
     uint8_t *number, size_t *place, size_t *length);
 
 settling c_production, c_price, rust_production, rust_price;
+adding c_impact, rust_impact;
 inverting c_inverse, rust_inverse;
 reading c_read_table, rust_read_table;
 writing c_write_table, rust_write_table;

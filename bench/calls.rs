@@ -5,6 +5,7 @@ use std::slice::{from_raw_parts, from_raw_parts_mut};
 const ONE: u64 = 1_000_000;
 const COLUMN: u64 = 950_000;
 const AMOUNT: u64 = 1_000_000_000;
+const DEMAND: u64 = 2_000_000_000;
 const SECTORS: usize = 40;
 const COLUMNS: usize = 7;
 
@@ -106,6 +107,31 @@ fn solve(
     check_sheet(n, d)?;
     check_start(start, limit)?;
     settle(n, d, transposed, start, budget, out, work).ok_or((9, 0))
+}
+
+/// The rise of production from one demand to a second, and the larger count of the two.
+fn add(
+    n: usize,
+    d: &[u64],
+    before: &[u64],
+    after: &[u64],
+    budget: u32,
+    out: &mut [u64],
+    work: &mut [u64],
+) -> Result<u32, Refusal> {
+    check_sheet(n, d)?;
+    check_start(before, DEMAND)?;
+    check_start(after, DEMAND)?;
+    if let Some(i) = before.iter().zip(after).position(|(first, second)| second < first) {
+        return Err((17, i));
+    }
+    let mut without = [0; SECTORS];
+    let first = settle(n, d, false, before, budget, &mut without[..n], work).ok_or((9, 0))?;
+    let second = settle(n, d, false, after, budget, out, work).ok_or((9, 0))?;
+    for (amount, less) in out.iter_mut().zip(without) {
+        *amount -= less;
+    }
+    Ok(first.max(second))
 }
 
 /// Each column sum and each row sum of a sheet against their mean, in millionths.
@@ -313,8 +339,39 @@ macro_rules! settling {
     };
 }
 
-settling!(rust_production, false, 2_000_000_000);
+settling!(rust_production, false, DEMAND);
 settling!(rust_price, true, 1_000_000_000);
+
+#[no_mangle]
+pub unsafe extern "C" fn rust_impact(
+    n: usize,
+    d: *const u64,
+    d_length: usize,
+    before: *const u64,
+    before_length: usize,
+    after: *const u64,
+    after_length: usize,
+    budget: u32,
+    out: *mut u64,
+    out_length: usize,
+    work: *mut u64,
+    work_length: usize,
+    number: *mut u8,
+    place: *mut usize,
+    rounds: *mut u32,
+) {
+    let d = from_raw_parts(d, d_length);
+    let before = from_raw_parts(before, before_length);
+    let after = from_raw_parts(after, after_length);
+    let out = from_raw_parts_mut(out, out_length);
+    let work = from_raw_parts_mut(work, work_length);
+    let answer = add(n, d, before, after, budget, out, work);
+    if answer.is_err() {
+        out.fill(0);
+    }
+    work.fill(0);
+    tell(answer, number, place, rounds);
+}
 
 #[no_mangle]
 pub unsafe extern "C" fn rust_inverse(

@@ -16,17 +16,18 @@ static const struct {
     const char *name;
     settling *production, *price;
     inverting *inverse;
+    adding *impact;
     reading *read_table;
     writing *write_table;
 } ways[WAYS] = {
-    {"ours", tawqeshim_production, tawqeshim_price, tawqeshim_inverse, tawqeshim_read_table, tawqeshim_write_table},
-    {"C", c_production, c_price, c_inverse, c_read_table, c_write_table},
-    {"Rust", rust_production, rust_price, rust_inverse, rust_read_table, rust_write_table},
+    {"ours", tawqeshim_production, tawqeshim_price, tawqeshim_inverse, tawqeshim_impact, tawqeshim_read_table, tawqeshim_write_table},
+    {"C", c_production, c_price, c_inverse, c_impact, c_read_table, c_write_table},
+    {"Rust", rust_production, rust_price, rust_inverse, rust_impact, rust_read_table, rust_write_table},
 };
 
-// Those up to INVERSE settle, the others are about files.
-enum call { PRODUCTION, PRICE, INVERSE, READ, WRITE, CALLS };
-static const char *const call_names[CALLS] = {"production", "price", "inverse", "read_table", "write_table"};
+// Those up to IMPACT settle, and LAPACK has those up to INVERSE; the others are about files.
+enum call { PRODUCTION, PRICE, INVERSE, IMPACT, READ, WRITE, CALLS };
+static const char *const call_names[CALLS] = {"production", "price", "inverse", "impact", "read_table", "write_table"};
 
 // What a call is handed.
 struct input {
@@ -34,6 +35,7 @@ struct input {
     size_t n;
     uint32_t budget;
     uint64_t d[CELLS], start[2][SECTORS]; // a demand, and direct rises
+    uint64_t after[SECTORS];              // the demand with a scheme
     uint8_t file[FILE_BYTES];
     size_t length;
     uint64_t x[CELLS], columns[COLUMNS][SECTORS]; // the table of the file, the adjustment and the rises last
@@ -63,6 +65,10 @@ static void run(enum call call, int way, const struct input *in, struct output *
     else if (call == INVERSE)
         ways[way].inverse(
             n, in->d, n * n, in->budget, out->sheet, n * n, c[0], n, c[1], n, &out->number, &out->place, &out->rounds);
+    else if (call == IMPACT)
+        ways[way].impact(
+            n, in->d, n * n, in->start[0], n, in->after, n, in->budget, c[0], n, out->work, n, &out->number,
+            &out->place, &out->rounds);
     else
         (call == PRICE ? ways[way].price : ways[way].production)(
             n, in->d, n * n, in->start[call == PRICE], n, in->budget, c[0], n, out->work, n, &out->number, &out->place,
@@ -133,6 +139,15 @@ static void ring(struct input *in, const char *name, uint64_t demand, uint64_t r
     in->start[1][0]++;
 }
 
+// A scheme that adds a hundredth to every demand, as far as its limit.
+static void add_scheme(struct input *in)
+{
+    for (size_t j = 0; j < in->n; j++) {
+        uint64_t more = in->start[0][j] + in->start[0][j] / 100;
+        in->after[j] = more < 2000000000 ? more : 2000000000;
+    }
+}
+
 // Every cell named, by rows and then by columns, none of them 0: the longest file that is accepted, as it is written.
 static void full_file(struct input *in)
 {
@@ -178,7 +193,7 @@ static int compare_refused(const struct input *in)
 {
     static struct input bad;
     int seen = 0;
-    for (enum call call = PRODUCTION; call <= INVERSE; call++) {
+    for (enum call call = PRODUCTION; call <= IMPACT; call++) {
         bad = *in;
         bad.budget = compare(call, in).rounds - 1;
         seen += compare(call, &bad).number == 9;
@@ -189,6 +204,12 @@ static int compare_refused(const struct input *in)
         bad.start[call == PRICE][random_below(in->n)] = call == PRICE ? 1000000001 : 2000000001;
         seen += compare(call, &bad).number == 8;
     }
+    size_t sector = random_below(in->n);
+    bad = *in;
+    bad.after[sector] = 2000000001;
+    seen += compare(IMPACT, &bad).number == 8;
+    bad.after[sector] = in->start[0][sector] / 2;
+    seen += compare(IMPACT, &bad).number == 17;
     return seen;
 }
 
@@ -317,7 +338,7 @@ static double median(const double *list, double *spread)
     return sorted[REPETITIONS / 2];
 }
 
-// All rounds of a call; of the inverse those of all columns.
+// All rounds of a call; of the inverse those of all columns, of an impact those of both demands.
 static uint64_t rounds_of(enum call call, const struct input *in, uint32_t *told)
 {
     static struct input unit;
@@ -327,6 +348,11 @@ static uint64_t rounds_of(enum call call, const struct input *in, uint32_t *told
     if (got.number != 0) {
         printf("%s of %s is refused with %d\n", call_names[call], in->name, got.number);
         exit(1);
+    }
+    if (call == IMPACT) {
+        unit = *in;
+        memcpy(unit.start[0], in->after, sizeof in->after);
+        return compare(PRODUCTION, in).rounds + compare(PRODUCTION, &unit).rounds;
     }
     if (call != INVERSE)
         return got.rounds;
@@ -353,7 +379,7 @@ static void row(enum call call, const struct input *in)
     for (int way = 0; way < used; way++)
         each[way] = median(took[way], &spread);
     printf("%-11s %-14s %2zu ", call_names[call], in->name, in->n);
-    if (call > INVERSE)
+    if (call > IMPACT)
         printf("%6s", "-");
     else
         printf("%6u", told);
@@ -363,7 +389,7 @@ static void row(enum call call, const struct input *in)
         else
             printf(" %9s", "-");
     for (int way = 0; way < WAYS; way++)
-        if (call > INVERSE)
+        if (call > IMPACT)
             printf(" %5s", "-");
         else
             printf(" %5.0f", each[way] / (double)rounds);
@@ -390,6 +416,7 @@ int main(void)
     ring(&sheets[5], "ring, largest", 2000000000, 1000000000);
     full_file(&file);
     for (int k = 0; k < SHEETS; k++) {
+        add_scheme(&sheets[k]);
         refused += compare_refused(&sheets[k]);
         for (enum call call = PRODUCTION; LAPACK && call <= INVERSE; call++)
             compare_lapack(call, &sheets[k]);
@@ -404,6 +431,7 @@ int main(void)
     for (enum call call = PRODUCTION; call <= INVERSE; call++)
         for (int k = 0; k < (call == INVERSE ? PLAIN : SHEETS); k++)
             row(call, &sheets[k]);
+    row(IMPACT, &sheets[2]);
     for (enum call call = READ; call < CALLS; call++)
         row(call, &file);
     return 0;

@@ -100,8 +100,10 @@ enum tawqeshim_number {
     TAWQESHIM_REFUSED_END = 15,
     /* a sector's exports and adjustment together are within 1,000,000,000; asked after 3, before 4. Place: the first sector over */
     TAWQESHIM_REFUSED_EXPORTS = 16,
+    /* the second demand is nowhere below the first; asked after 8, before 9. Place: the first sector below */
+    TAWQESHIM_REFUSED_LOWER_DEMAND = 17,
     /* the last number */
-    TAWQESHIM_QUESTIONS = 16
+    TAWQESHIM_QUESTIONS = 17
 };
 
 /* The question of a number, as text to show; an empty text for 0 and for a number that no question has. */
@@ -124,6 +126,7 @@ static inline const char *tawqeshim_question(uint8_t number) {
         "is the cell named for the first time?",
         "does kind 8 come, with no byte after it?",
         "are a sector's exports and adjustment together within 1,000,000,000?",
+        "is the second demand nowhere below the first?",
     };
     return number <= TAWQESHIM_QUESTIONS ? texts[number] : "";
 }
@@ -171,6 +174,27 @@ void tawqeshim_production(
     size_t n,
     const uint64_t *d, size_t d_length,
     const uint64_t *f, size_t f_length,
+    uint32_t budget,
+    uint64_t *out, size_t out_length,
+    uint64_t *work, size_t work_length,
+    uint8_t *number, size_t *place, uint32_t *rounds);
+
+/*
+ * What a scheme adds: the rise of each sector's production from one demand to a second. Asks 1, 2, 7, 8, 17, 9.
+ *
+ * Takes domestic coefficients d, n * n cells; the demands before and after, n cells each, of which the second is nowhere below the first;
+ * and the rounds allowed for each demand. 8 and 9 are asked of the first demand and then of the second. The place of 8 is the sector, in
+ * both alike.
+ * Gives in out, n cells, the production settled from after less that settled from before; in *rounds the larger of the two counts, which
+ * may be that of the first. No sector falls, each rises by at least what was added to it, and all n together rise by less than
+ * 20 * T + 20 * n, with T the total added. Equal demands give 0 in every sector.
+ * A refusal sets every cell of out to 0. Every cell of work, n cells, is 0 after every call.
+ */
+void tawqeshim_impact(
+    size_t n,
+    const uint64_t *d, size_t d_length,
+    const uint64_t *before, size_t before_length,
+    const uint64_t *after, size_t after_length,
     uint32_t budget,
     uint64_t *out, size_t out_length,
     uint64_t *work, size_t work_length,

@@ -8,6 +8,7 @@ and every quotient is rounded down.
 
     coefficients             from a table to its sheets: coefficients, shares, and the demand for domestic goods
     production               from a demand for domestic goods to production
+    impact                   the rise of production from one demand to a second: what a scheme adds
     price                    from direct price rises to settled ones
     implied_demand           from production back to the demand behind it
     induced                  value added and imports that a production induces
@@ -69,8 +70,8 @@ from pathlib import Path
 from typing import Any, NamedTuple, NoReturn, Optional, Protocol, Union
 
 __version__ = "2.0.0"
-__all__ = ["QUESTIONS", "Refused", "Coefficients", "Production", "Prices", "Induced", "Inverse", "Table", "coefficients", "production",
-           "price", "implied_demand", "induced", "inverse", "row", "read_table", "write_table", "page"]
+__all__ = ["QUESTIONS", "Refused", "Coefficients", "Production", "Impact", "Prices", "Induced", "Inverse", "Table", "coefficients",
+           "production", "impact", "price", "implied_demand", "induced", "inverse", "row", "read_table", "write_table", "page"]
 
 QUESTIONS: dict[int, str] = {
     1: "is n from 1 to 40?",
@@ -89,6 +90,7 @@ QUESTIONS: dict[int, str] = {
     14: "is the cell named for the first time?",
     15: "does kind 8 come, with no byte after it?",
     16: "are a sector's exports and adjustment together within 1,000,000,000?",
+    17: "is the second demand nowhere below the first?",
 }
 
 
@@ -119,6 +121,13 @@ class Production(NamedTuple):
     """A settled production, and the count of its rounds."""
 
     amounts: list[int]
+    rounds: int
+
+
+class Impact(NamedTuple):
+    """The rise of each sector's production, and the larger count of rounds of the two demands."""
+
+    rises: list[int]
     rounds: int
 
 
@@ -489,12 +498,13 @@ def coefficients(flows: "Matrix", final_demand: "Column", exports: "Column", imp
     return Coefficients(a[:], v[:], m[:], d[:], f[:])
 
 
-def _settled(call: str, domestic: "Matrix", name: str, start: "Column", budget: int, n: Optional[int]) -> tuple[list[int], int]:
-    starts = _column(name, start)
-    n = _size(n, starts)
+def _settled(call: str, domestic: "Matrix", given: "dict[str, Column]", budget: int, n: Optional[int]) -> tuple[list[int], int]:
+    """The amounts and the count of a call that settles the columns given by their names."""
+    starts = [_column(name, start) for name, start in given.items()]
+    n = _size(n, starts[0])
     out, work = _new_column(n), _new_column(n)
     rounds = ctypes.c_uint32()
-    _ask(call, n, _matrix("domestic", domestic), starts, _budget(budget), out, work, counts=[rounds])
+    _ask(call, n, _matrix("domestic", domestic), *starts, _budget(budget), out, work, counts=[rounds])
     return out[:], rounds.value
 
 
@@ -514,7 +524,24 @@ def production(domestic: "Matrix", demand: "Column", budget: int = 1400, *, n: O
     Traceback (most recent call last):
     TypeError: demand is a dict, whose members are no cells in order
     """
-    return Production(*_settled("production", domestic, "demand", demand, budget, n))
+    return Production(*_settled("production", domestic, {"demand": demand}, budget, n))
+
+
+def impact(domestic: "Matrix", before: "Column", after: "Column", budget: int = 1400, *, n: Optional[int] = None) -> Impact:
+    """What a scheme adds: the rise of each sector's production from the demand `before` to the demand `after`, which is nowhere below it.
+    Asks 1, 2, 7, 8, 17, 9; 8 and 9 of the first demand and then of the second. The budget holds for each demand.
+
+    No sector falls, each rises by at least what was added to it, and all n sectors together rise by less than 20 * T + 20 * n, with T the
+    total added. Equal demands give 0 in every sector.
+
+    >>> domestic = [[75_000, 150_000], [240_000, 240_000]]
+    >>> impact(domestic, [625, 1280], [635, 1280])
+    Impact(rises=[12, 4], rounds=10)
+    >>> impact(domestic, [625, 1280], [626, 1279])
+    Traceback (most recent call last):
+    tawqeshim.Refused: question 17, place 1: is the second demand nowhere below the first?
+    """
+    return Impact(*_settled("impact", domestic, {"before": before, "after": after}, budget, n))
 
 
 def price(domestic: "Matrix", rises: "Column", budget: int = 1400, *, n: Optional[int] = None) -> Prices:
@@ -525,7 +552,7 @@ def price(domestic: "Matrix", rises: "Column", budget: int = 1400, *, n: Optiona
     >>> price([[75_000, 150_000], [240_000, 240_000]], [10_000, 0])
     Prices(rises=[11393, 2248], rounds=10)
     """
-    return Prices(*_settled("price", domestic, "rises", rises, budget, n))
+    return Prices(*_settled("price", domestic, {"rises": rises}, budget, n))
 
 
 def implied_demand(domestic: "Matrix", production: "Column", *, n: Optional[int] = None) -> list[int]:

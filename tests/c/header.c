@@ -37,16 +37,25 @@ static void questions(void) {
         for (int other = 1; other < k; other++)
             expect(strcmp(text, tawqeshim_question((uint8_t)other)) != 0, "two questions have one text");
     }
-    expect(TAWQESHIM_REFUSED_EXPORTS == TAWQESHIM_QUESTIONS, "the last question is not the last number");
+    expect(TAWQESHIM_REFUSED_LOWER_DEMAND == TAWQESHIM_QUESTIONS, "the last question is not the last number");
     expect(strcmp(tawqeshim_question(TAWQESHIM_REFUSED_ROUNDS), "do the rounds settle within the budget?") == 0, "the text of question 9");
     expect(strcmp(tawqeshim_question(TAWQESHIM_REFUSED_END), "does kind 8 come, with no byte after it?") == 0, "the text of question 15");
     expect(strstr(tawqeshim_question(TAWQESHIM_REFUSED_EXPORTS), "exports and adjustment") != NULL, "the text of question 16");
+    expect(strstr(tawqeshim_question(TAWQESHIM_REFUSED_LOWER_DEMAND), "second demand") != NULL, "the text of question 17");
 }
 
 /* One sector, whose coefficient, demand and rise may be at a limit or one over it. */
 static void produce(uint64_t d, uint64_t f) {
     uint64_t out, work;
     tawqeshim_production(1, &d, 1, &f, 1, TAWQESHIM_PAGE_BUDGET, &out, 1, &work, 1, &number, &place, &rounds);
+}
+
+/* Its rise from one demand to a second. */
+static uint64_t add(uint64_t before, uint64_t after) {
+    uint64_t d = TAWQESHIM_COLUMN_LIMIT, out = 7, work = 7;
+    tawqeshim_impact(1, &d, 1, &before, 1, &after, 1, TAWQESHIM_PAGE_BUDGET, &out, 1, &work, 1, &number, &place, &rounds);
+    expect(work == 0, "the work of a scheme is not 0");
+    return out;
 }
 
 static void rise(uint64_t w) {
@@ -104,6 +113,18 @@ static void limits(void) {
     answers(TAWQESHIM_ACCEPTED, 0, "a demand at its limit");
     produce(0, TAWQESHIM_DEMAND_LIMIT + 1);
     answers(TAWQESHIM_REFUSED_LIMIT, 0, "a demand over its limit");
+    expect(add(1, 2) == 20 && rounds == 20, "a rise at a column sum's limit");
+    answers(TAWQESHIM_ACCEPTED, 0, "a scheme");
+    expect(add(0, TAWQESHIM_DEMAND_LIMIT) > TAWQESHIM_DEMAND_LIMIT, "a rise below what was added");
+    answers(TAWQESHIM_ACCEPTED, 0, "a second demand at its limit");
+    expect(add(TAWQESHIM_DEMAND_LIMIT, TAWQESHIM_DEMAND_LIMIT) == 0, "a rise without a scheme");
+    answers(TAWQESHIM_ACCEPTED, 0, "both demands at their limit");
+    expect(add(0, TAWQESHIM_DEMAND_LIMIT + 1) == 0 && rounds == 0, "a scheme that is refused with 8 is not 0");
+    answers(TAWQESHIM_REFUSED_LIMIT, 0, "a second demand over its limit");
+    expect(add(TAWQESHIM_DEMAND_LIMIT + 1, 0) == 0, "a scheme that is refused with 8 is not 0");
+    answers(TAWQESHIM_REFUSED_LIMIT, 0, "a first demand over its limit");
+    expect(add(2, 1) == 0 && rounds == 0, "a scheme that is refused with 17 is not 0");
+    answers(TAWQESHIM_REFUSED_LOWER_DEMAND, 0, "a second demand below the first");
     rise(TAWQESHIM_RISE_LIMIT);
     answers(TAWQESHIM_ACCEPTED, 0, "a rise at its limit");
     rise(TAWQESHIM_RISE_LIMIT + 1);
@@ -260,6 +281,16 @@ static void by_names(void) {
     tawqeshim_sheets_induced(2, &sheets, columns_of[0], settled, value, imports, &number, &place);
     answers(TAWQESHIM_ACCEPTED, 0, "the worked production");
     expect(value[0] == 599 && value[1] == 999 && imports[0] == 249 && imports[1] == 359, "the worked table's induced amounts");
+
+    const uint64_t more[2] = {f[0] + 10, f[1]}, less[2] = {f[0] + 10, f[1] - 1};
+    uint64_t out[2], work[2];
+    tawqeshim_impact(2, d, 4, f, 2, more, 2, 10, out, 2, work, 2, &number, &place, &rounds);
+    answers(TAWQESHIM_ACCEPTED, 0, "a scheme for the worked table");
+    expect(out[0] == 12 && out[1] == 4 && rounds == 10, "what a scheme adds to the worked production");
+    tawqeshim_impact(2, d, 4, f, 2, more, 2, 9, out, 2, work, 2, &number, &place, &rounds);
+    answers(TAWQESHIM_REFUSED_ROUNDS, 0, "a scheme that does not settle");
+    tawqeshim_impact(2, d, 4, f, 2, less, 2, 0, out, 2, work, 2, &number, &place, &rounds);
+    answers(TAWQESHIM_REFUSED_LOWER_DEMAND, 1, "a scheme that takes a unit away");
 
     static const char printed[] = "sector demand production value imports\n1 625 999 599 249\n2 1280 1999 999 359\nrounds 9\n";
     const uint64_t rises[2] = {0, 0};

@@ -10,6 +10,7 @@ pub const PAGE_BYTES: usize = 2_851;
 pub enum Call {
     Coefficients,
     Production,
+    Impact,
     Price,
     ImpliedDemand,
     Induced,
@@ -20,9 +21,10 @@ pub enum Call {
     Page,
 }
 
-pub const CALLS: [Call; 10] = [
+pub const CALLS: [Call; 11] = [
     Call::Coefficients,
     Call::Production,
+    Call::Impact,
     Call::Price,
     Call::ImpliedDemand,
     Call::Induced,
@@ -38,6 +40,7 @@ impl Call {
         match self {
             Call::Coefficients => "coefficients",
             Call::Production => "production",
+            Call::Impact => "impact",
             Call::Price => "price",
             Call::ImpliedDemand => "implied_demand",
             Call::Induced => "induced",
@@ -56,6 +59,7 @@ impl Call {
         match self {
             Call::Coefficients => &[0, 1, 2, 3, 4, 5, 6, 7, 16],
             Call::Production | Call::Price => &[0, 1, 2, 7, 8, 9],
+            Call::Impact => &[0, 1, 2, 7, 8, 9, 17],
             Call::ImpliedDemand => &[0, 1, 2, 7, 8, 10],
             Call::Induced => &[0, 1, 2, 3, 8],
             Call::Inverse => &[0, 1, 2, 7, 9],
@@ -71,6 +75,7 @@ impl Call {
         match self {
             Call::Coefficients => vec![n * n, n, n, n, n, n, n],
             Call::Production | Call::Price | Call::ImpliedDemand => vec![n * n, n],
+            Call::Impact => vec![n * n, n, n],
             Call::Induced => vec![n * n, n, n, n, n],
             Call::WriteTable => vec![n * n, n, n, n, n, n, n, n],
             Call::Inverse | Call::Row => vec![n * n],
@@ -82,7 +87,7 @@ impl Call {
     pub fn lent_lengths(self, n: usize) -> Vec<usize> {
         match self {
             Call::Coefficients => vec![n * n, n, n, n * n, n],
-            Call::Production | Call::Price | Call::Induced => vec![n, n],
+            Call::Production | Call::Impact | Call::Price | Call::Induced => vec![n, n],
             Call::ImpliedDemand => vec![n],
             Call::Inverse => vec![n * n, n, n],
             Call::Row => vec![],
@@ -162,6 +167,7 @@ pub fn by_reference(case: &Case) -> Outcome {
             *n, &given[0], &given[1], &given[2], &given[3], &given[4], &given[5], &given[6], lent,
         ),
         Call::Production => reference::production(*n, &given[0], &given[1], *budget, lent),
+        Call::Impact => reference::impact(*n, &given[0], &given[1], &given[2], *budget, lent),
         Call::Price => reference::price(*n, &given[0], &given[1], *budget, lent),
         Call::ImpliedDemand => reference::implied_demand(*n, &given[0], &given[1], lent),
         Call::Induced => reference::induced(
@@ -241,6 +247,18 @@ extern "C" {
         n: usize,
         d: *const u64, d_length: usize,
         f: *const u64, f_length: usize,
+        budget: u32,
+        out: *mut u64, out_length: usize,
+        work: *mut u64, work_length: usize,
+        number: *mut u8,
+        place: *mut usize,
+        rounds: *mut u32,
+    );
+    fn tawqeshim_impact(
+        n: usize,
+        d: *const u64, d_length: usize,
+        before: *const u64, before_length: usize,
+        after: *const u64, after_length: usize,
         budget: u32,
         out: *mut u64, out_length: usize,
         work: *mut u64, work_length: usize,
@@ -373,6 +391,13 @@ pub fn by_library(case: &Case) -> Result<Outcome, &'static str> {
             Call::Production => {
                 tawqeshim_production(
                     n, g(0), gl(0), g(1), gl(1), case.budget, l(0), ll(0), l(1), ll(1),
+                    &mut number, &mut place, &mut rounds,
+                );
+                counts = [rounds as usize, 0];
+            }
+            Call::Impact => {
+                tawqeshim_impact(
+                    n, g(0), gl(0), g(1), gl(1), g(2), gl(2), case.budget, l(0), ll(0), l(1), ll(1),
                     &mut number, &mut place, &mut rounds,
                 );
                 counts = [rounds as usize, 0];

@@ -251,6 +251,38 @@ fn starts(rng: &mut Rng, n: usize, limit: u64) -> Vec<u64> {
     list
 }
 
+/// The demand with a scheme: nothing added, a unit, a little, much, or all up to the limit; now and then over the limit, or below the
+/// first demand.
+fn second_demand(rng: &mut Rng, before: &[u64]) -> Vec<u64> {
+    let n = before.len();
+    let mut after = before.to_vec();
+    let at = rng.spot(n);
+    let room = |amount: u64| DEMAND.saturating_sub(amount);
+    match rng.below(8) {
+        0 => {}
+        1 => after[at] = after[at].saturating_add(1),
+        2 => after[at] += rng.magnitude(room(after[at])),
+        3 | 4 => after.iter_mut().for_each(|amount| *amount = amount.saturating_add(rng.upto(20))),
+        5 => after.iter_mut().for_each(|amount| *amount += room(*amount)),
+        _ => after.iter_mut().for_each(|amount| *amount += rng.magnitude(room(*amount))),
+    }
+    let at = rng.spot(n);
+    match rng.below(14) {
+        0 => after[at] = DEMAND + 1,
+        1 => after[at] = strange_cell(rng),
+        2 => after[at] = before[at].saturating_sub(1),
+        // Two sectors below the first demand, to see the first taken.
+        3 => {
+            for k in [at, rng.below(n)] {
+                after[k] = rng.magnitude(before[k]);
+            }
+        }
+        4 => return starts(rng, n, DEMAND),
+        _ => {}
+    }
+    after
+}
+
 /// A given production: a running total at the limit, one over it or far over it now and then.
 fn productions(rng: &mut Rng, n: usize) -> Vec<u64> {
     let most = PRODUCTION / n as u64;
@@ -284,8 +316,11 @@ fn rounds_case(rng: &mut Rng, call: Call) -> Case {
         press_column(rng, n, &mut d);
     }
     let limit = if call == Call::Price { RISE } else { DEMAND };
-    let start = starts(rng, n, limit);
-    let mut case = Case { budget: budget(rng), ..Case::new(call, n, vec![d, start]) };
+    let mut given = vec![d, starts(rng, n, limit)];
+    if call == Call::Impact {
+        given.push(second_demand(rng, &given[1]));
+    }
+    let mut case = Case { budget: budget(rng), ..Case::new(call, n, given) };
     if rng.chance(1, 6) {
         tight_budget(rng, &mut case);
     }
@@ -996,14 +1031,18 @@ fn long_ring(rng: &mut Rng) -> Case {
     let n = SECTORS;
     let mut d = vec![0; n * n];
     (0..n).for_each(|j| d[(j + 1) % n * n + j] = COLUMN);
-    let call = rng.of(&[Call::Production, Call::Price]);
+    let call = rng.of(&[Call::Production, Call::Impact, Call::Price]);
     let limit = if call == Call::Price { RISE } else { DEMAND };
     let mut start = vec![rng.of(&[limit - 1, limit - 20, limit / 3]); n];
     start[rng.below(n)] += 1;
     if rng.chance(1, 4) {
         start = starts(rng, n, limit);
     }
-    Case { budget: rng.of(&[u32::MAX, 1400, 1000]), ..Case::new(call, n, vec![d, start]) }
+    let mut given = vec![d, start];
+    if call == Call::Impact {
+        given.push(second_demand(rng, &given[1]));
+    }
+    Case { budget: rng.of(&[u32::MAX, 1400, 1000]), ..Case::new(call, n, given) }
 }
 
 pub fn case(seed: u64, index: u64) -> Case {
@@ -1012,7 +1051,7 @@ pub fn case(seed: u64, index: u64) -> Case {
     if index % 2_000 == 0 {
         return long_ring(rng);
     }
-    let mut case = match rng.below(118) {
+    let mut case = match rng.below(134) {
         0..=23 => coefficients_case(rng),
         24..=43 => rounds_case(rng, Call::Production),
         44..=55 => rounds_case(rng, Call::Price),
@@ -1022,6 +1061,7 @@ pub fn case(seed: u64, index: u64) -> Case {
         83..=85 => row_case(rng),
         86..=99 => read_case(rng),
         100..=109 => write_case(rng),
+        110..=125 => rounds_case(rng, Call::Impact),
         _ => page_case(rng),
     };
     let by_size = !matches!(case.call, Call::ReadTable | Call::Page);

@@ -1,14 +1,15 @@
 //! Differential test: the library, through its C interface, against the paper.
 //!
 //! `differential [cases]` first runs the paper's worked cases, then as many pseudo-random cases
-//! (2,000,000 unless told otherwise), then settled amounts against exact balances, and files that
-//! are written and read. The seed is fixed and a case depends on its index alone, so every run is
-//! the same.
+//! (2,000,000 unless told otherwise), each accepted impact among them against what is promised of it,
+//! then settled amounts against exact balances, and files that are written and read. The seed is fixed
+//! and a case depends on its index alone, so every run is the same.
 
 mod archives;
 mod calls;
 mod exact;
 mod generate;
+mod impacts;
 mod reference;
 mod worked;
 
@@ -47,10 +48,11 @@ impl Tally {
         let paper = by_reference(&case);
         self.cases += 1;
         self.seen[case.call as usize][usize::from(number_seen(&case, &paper))] += 1;
-        if matches!(case.call, Call::Production | Call::Price | Call::Inverse) {
+        if matches!(case.call, Call::Production | Call::Impact | Call::Price | Call::Inverse) {
             self.most_rounds = self.most_rounds.max(paper.counts[0]);
         }
-        let told = match by_library(&case) {
+        let library = by_library(&case).and_then(|library| impacts::check(&case, &library).map(|()| library));
+        let told = match library {
             Ok(library) if library == paper => return,
             Ok(library) => format!("{name}: paper {paper:?}, library {library:?}"),
             Err(what) => format!("{name}: {what}"),

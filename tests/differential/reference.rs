@@ -5,7 +5,7 @@
 //! the cells of those slices after the call, in the interface's order, or a refusal.
 
 /// The last number of a question.
-pub const QUESTIONS: usize = 16;
+pub const QUESTIONS: usize = 17;
 pub const ONE: u128 = 1_000_000;
 pub const SECTORS: usize = 40;
 pub const AMOUNT_LIMIT: u128 = 1_000_000_000;
@@ -173,6 +173,16 @@ fn question_8_total(production: &[u64]) -> Asked {
     Ok(())
 }
 
+/// Question 17, asked after 8: is the second demand nowhere below the first? The place is the first failing sector.
+fn question_17(before: &[u64], after: &[u64]) -> Asked {
+    for (i, (first, second)) in before.iter().zip(after).enumerate() {
+        if second < first {
+            return refuse(17, i);
+        }
+    }
+    Ok(())
+}
+
 // ---------------------------------------------------------------------------------------------
 // "The table and its units", "The sheets, all rounded down"
 // ---------------------------------------------------------------------------------------------
@@ -309,6 +319,30 @@ pub fn production(
     question_8_each(f, DEMAND_LIMIT)?;
     let (settled, count) = settle(n, d, f, budget).ok_or(Refusal { number: 9, place: 0 })?;
     Ok(Given { cells: vec![settled, vec![0; n]], counts: [count as usize, 0] })
+}
+
+/// "What a scheme adds" (document 02, ticket 4): the rise of each sector from the first demand to the second. "It asks what
+/// production asks, of the first demand and then of the second, at each question", and 17 after 8. Lent: rise, work.
+pub fn impact(
+    n: usize,
+    d: &[u64],
+    before: &[u64],
+    after: &[u64],
+    budget: u32,
+    lent: &[usize],
+) -> Result<Given, Refusal> {
+    question_1(n)?;
+    question_2(&[(d.len(), n * n), (before.len(), n), (after.len(), n), (lent[0], n), (lent[1], n)])?;
+    question_7(n, d)?;
+    question_8_each(before, DEMAND_LIMIT)?;
+    question_8_each(after, DEMAND_LIMIT)?;
+    question_17(before, after)?;
+    // "The budget holds for each demand separately, and the count is the larger of the two."
+    let nine = Refusal { number: 9, place: 0 };
+    let (without, first) = settle(n, d, before, budget).ok_or(nine)?;
+    let (with, second) = settle(n, d, after, budget).ok_or(nine)?;
+    let rise = (0..n).map(|i| with[i].checked_sub(without[i]).expect("a production that falls")).collect();
+    Ok(Given { cells: vec![rise, vec![0; n]], counts: [first.max(second) as usize, 0] })
 }
 
 /// "Prices": as production, the sum running down the column. Asks 1, 2, 7, 8, 9. Lent: rise, work.

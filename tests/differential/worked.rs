@@ -1,5 +1,6 @@
 //! The paper's worked cases P1 to P12, its slips and its printed sheet, with the paper's numbers; files
-//! that name one cell or all; the worked table written as a file; and tables with an adjustment.
+//! that name one cell or all; the worked table written as a file; tables with an adjustment; and what
+//! schemes add.
 
 use crate::calls::{Call, Case, Outcome, PAGE_BYTES};
 use crate::reference::{self, Refusal, AMOUNT_LIMIT, FILE_BYTES, ONE};
@@ -96,7 +97,7 @@ pub fn cases() -> Vec<(&'static str, Case, Outcome)> {
     }
     cases.push(("P10", rounds(forward, &D, &[0, 0], 1), accepted(1, &[&[0, 0], &[0, 0]])));
     for n in [0, 41] {
-        let calls = [Call::Coefficients, forward, prices, back, Call::Induced, Call::Inverse];
+        let calls = [Call::Coefficients, forward, Call::Impact, prices, back, Call::Induced, Call::Inverse];
         for call in calls {
             let given = call.given_lengths(n).iter().map(|length| vec![0; *length]).collect();
             let case = Case { budget: 1, ..Case::new(call, n, given) };
@@ -128,6 +129,65 @@ pub fn cases() -> Vec<(&'static str, Case, Outcome)> {
     cases.extend(named_cases());
     cases.extend(writer_cases());
     cases.extend(adjustment_cases());
+    cases.extend(impact_cases());
+    cases
+}
+
+/// A sheet and two demands.
+fn scheme(sheet: &[u64], before: &[u64], after: &[u64], budget: u32) -> Case {
+    let given = vec![sheet.to_vec(), before.to_vec(), after.to_vec()];
+    Case { budget, ..Case::new(Call::Impact, before.len(), given) }
+}
+
+/// "What a scheme adds". The rises are those of productions worked by hand.
+fn impact_cases() -> Vec<(&'static str, Case, Outcome)> {
+    let mut cases = Vec::new();
+    let mut rise = |name, case: Case, count, rise: &[u64]| {
+        let work = vec![0; rise.len()];
+        cases.push((name, case, accepted(count, &[rise, &work])));
+    };
+    // 635 1280 settles at 1011 2003 in 10 rounds.
+    let more = [635, 1280];
+    for budget in [10, 1400, u32::MAX] {
+        rise("a scheme", scheme(&D, &F, &more, budget), 10, &[12, 4]);
+    }
+    rise("no scheme", scheme(&D, &F, &F, 9), 9, &[0, 0]);
+    rise("no demand, no scheme", scheme(&D, &[0, 0], &[0, 0], 1), 1, &[0, 0]);
+    rise("from no demand", scheme(&D, &[0, 0], &F, 9), 9, &[999, 1999]);
+    // 41 24 settles at 86 58 in 9 rounds, and 42 24 at 87 58 in 8.
+    let sheet = [259_750, 398_963, 235_662, 247_592];
+    rise("the lower demand takes longer", scheme(&sheet, &[41, 24], &[42, 24], 9), 9, &[1, 0]);
+    // At the limits of the sheet and of the demand: 1 settles at 1, and 2 at 21 after 19 rounds that change it.
+    rise("a column at its limit", scheme(&[950_000], &[1], &[2], 20), 20, &[20]);
+    let most = 2_000_000_000;
+    rise("up to the limit", scheme(&[0; 4], &[0, 7], &[most, most], 1), 1, &[most, most - 7]);
+
+    let mut no = |name, case: Case, number, place| {
+        let outcome = refused(&case, number, place);
+        cases.push((name, case, outcome));
+    };
+    no("the second does not settle", scheme(&D, &F, &more, 9), 9, 0);
+    no("the first does not settle", scheme(&sheet, &[41, 24], &[42, 24], 8), 9, 0);
+    no("neither settles", scheme(&D, &F, &more, 8), 9, 0);
+    no("no rounds", scheme(&D, &[0, 0], &[0, 0], 0), 9, 0);
+    // 17 is asked before 9 and after 8, and 8 of the first demand and then of the second.
+    no("the second is below, no rounds", scheme(&D, &F, &[626, 1279], 0), 17, 1);
+    no("the second is below in both", scheme(&D, &F, &[624, 1279], 1400), 17, 0);
+    no("the second is below and over", scheme(&D, &F, &[624, most + 1], 1400), 8, 1);
+    no("each is over in its own sector", scheme(&D, &[0, most + 1], &[most + 1, 0], 1400), 8, 1);
+    no("the second is over in both", scheme(&D, &[0, most], &[most + 1, u64::MAX], 1400), 8, 0);
+    no("a column is over, the second below", scheme(&[1, 475_000, 0, 475_001], &F, &[0, 0], 0), 7, 1);
+    // Each slice with a cell less and a cell more, the lent ones too.
+    for (slice, less, more_cells) in (0..5).flat_map(|slice| [(slice, 1, 0), (slice, 0, 1)]) {
+        let mut case = scheme(&D, &F, &more, 1400);
+        if slice < 3 {
+            let length = case.given[slice].len() - less + more_cells;
+            case.given[slice].resize(length, 0);
+        } else {
+            case.lent[slice - 3] = 2 - less + more_cells;
+        }
+        no("a scheme with other lengths", case, 2, 0);
+    }
     cases
 }
 
@@ -384,6 +444,15 @@ pub fn slips() -> Vec<(&'static str, bool)> {
     slips.push(("the adjustment cut by the import share", cut == 635 && f == Ok(650)));
     slips.push(("the adjustment left out", inside + EXPORTS[0] == 600 && f == Ok(650)));
     slips.push(("103 bytes", adjusted_file().len() == 103));
+
+    // The scheme settled by itself, and the counts of both demands added.
+    let more = [635, 1280];
+    let given = reference::impact(2, &D, &F, &more, 1400, &[2, 2]);
+    let right = given.map(|given| (given.cells[0].clone(), given.counts[0])) == Ok((vec![12, 4], 10));
+    let alone = reference::settle(2, &D, &[10, 0], 1400);
+    slips.push(("the scheme settled by itself", alone == Some((vec![11, 3], 4)) && right));
+    let count = |demand: &[u64]| reference::settle(2, &D, demand, 1400).map_or(0, |(_, count)| count);
+    slips.push(("the counts added", count(&F) + count(&more) == 19 && right));
 
     slips.push(("91 bytes", file().len() == 91));
     slips.push(("the printed sheet", reference::page(&file()) == PRINTED.as_bytes()));

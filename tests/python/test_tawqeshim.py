@@ -1,5 +1,5 @@
-"""Tests of python/tawqeshim.py: refusals, what it takes as cells and what it does not, its library, the worked table from its file to its
-page, and tables written as files. Tests of numpy and pandas are skipped where these are not installed."""
+"""Tests of python/tawqeshim.py: refusals, what it takes as cells and what it does not, what schemes add, its library, the worked table from
+its file to its page, and tables written as files. Tests of numpy and pandas are skipped where these are not installed."""
 import ctypes
 import doctest
 import inspect
@@ -72,6 +72,7 @@ class Refusals(Refusing):
         self.refused(8, 1, t.production, DOMESTIC, [0, 2_000_000_001])
         self.refused(8, 0, t.production, DOMESTIC, [2**64 - 1, 0])
         self.refused(9, 0, t.production, DOMESTIC, DEMAND, 8)
+        self.refused(17, 1, t.impact, DOMESTIC, DEMAND, [626, 1279])
         self.refused(10, 0, t.implied_demand, DOMESTIC, [0, 1000])
         for number, place, file in [(11, 2, [1, 2, 11]), (11, 2, [1, 2, 10, 1, 0, 0, 0]), (12, 0, [1, 41]),
                                     (13, 2, [1, 2, 3, 3, 0, 0, 0, 1]), (13, 2, [1, 2, 10, 3, 0, 0, 0, 1]),
@@ -91,12 +92,26 @@ class Refusals(Refusing):
         self.refused(3, 4 + 5 * 2 + 1, t.coefficients, **table(adjustment=[limit, limit + 1]))
         self.refused(16, 0, t.coefficients, **table(adjustment=[limit, 0], value_added=[600, 1001]))
 
+    def test_schemes(self):
+        over = 2_000_000_001
+        # 8 of the first demand, 8 of the second, 17, and 9
+        self.refused(8, 1, t.impact, DOMESTIC, [0, over], [over, 0])
+        self.refused(8, 1, t.impact, DOMESTIC, DEMAND, [624, over])
+        self.refused(17, 0, t.impact, DOMESTIC, DEMAND, [624, 1279], 0)
+        self.refused(9, 0, t.impact, DOMESTIC, DEMAND, [635, 1280], 9)
+        self.refused(9, 0, t.impact, DOMESTIC, [0, 0], [0, 0], 0)
+        self.refused(7, 0, t.impact, [950_001], [1], [0], 0)
+        self.refused(1, 0, t.impact, [], [], [])
+        self.assertEqual(t.QUESTIONS[17], "is the second demand nowhere below the first?")
+
     def test_wrong_lengths_are_the_librarys_to_refuse(self):
         for name in [*table(), "adjustment"]:
             self.refused(2, 0, t.coefficients, **table(**{name: [0] * 3}), n=2)
         self.refused(2, 0, t.production, DOMESTIC, DEMAND + [0])
         self.refused(2, 0, t.production, ROWS, DEMAND + [0])
         self.refused(2, 0, t.price, DOMESTIC[:3], DEMAND)
+        for before, after in ((DEMAND, DEMAND + [0]), (DEMAND + [0], DEMAND), (DEMAND, []), ([], DEMAND)):
+            self.refused(2, 0, t.impact, DOMESTIC, before, after, n=2)
         self.refused(2, 0, t.implied_demand, array("Q", DOMESTIC), array("Q"), n=2)
         self.refused(2, 0, t.induced, FLOWS, [0], [0, 0], [0, 0], [0, 0])
         self.refused(2, 0, t.inverse, DOMESTIC[:3])
@@ -163,6 +178,12 @@ class Sequences(Given):
         for call, name in ((t.price, "rises"), (t.implied_demand, "production"), (t.production, "demand")):
             with self.assertRaisesRegex(TypeError, f"^{name} is a dict, "):
                 call(DOMESTIC, {0: 1, 1: 2})
+        for name in ("domestic", "before", "after"):
+            given = {"domestic": DOMESTIC, "before": DEMAND, "after": DEMAND}
+            with self.assertRaisesRegex(TypeError, f"^{name} is a dict, "):
+                t.impact(**{**given, name: {0: 1, 1: 2}})
+            with self.assertRaisesRegex(ValueError, rf"^{name}\[1\] is -7, below 0$"):
+                t.impact(**{**given, name: [0, -7]})
 
     def test_cells_that_are_no_numbers(self):
         self.not_taken(TypeError, r"demand\[1\] is .*, not a whole number$", [0, True], [0, None], [0, "1"], [0, b"1"], [0, Decimal(1)],
@@ -356,6 +377,31 @@ class Pandas(Given):
         self.sheet_not_taken(TypeError, r"domestic\[0\]\[0\] is 'agriculture', not a whole number$",
                              pandas.DataFrame([["agriculture", 1], ["industry", 2]]))
         self.sheet_not_taken(ValueError, "domestic has 2 rows of 3 cells", pandas.DataFrame([[0, 0, 0], [0, 0, 0]]))
+
+
+class Schemes(unittest.TestCase):
+    """What a scheme adds to production."""
+
+    def test_the_rise_is_the_difference_of_two_productions(self):
+        lower, higher = [41, 24], [42, 24]  # the lower demand takes a round more
+        other = [[259_750, 398_963], [235_662, 247_592]]
+        for domestic, before, after, expected in [
+                (DOMESTIC, DEMAND, [635, 1280], ([12, 4], 10)), (ROWS, array("q", DEMAND), (635.0, 1280), ([12, 4], 10)),
+                (DOMESTIC, [0, 0], DEMAND, MADE), (other, lower, higher, ([1, 0], 9)), ([950_000], [1], [2], ([20], 20)),
+                (DOMESTIC, DEMAND, [2_000_000_000] * 2, None)]:
+            rise = t.impact(domestic, before, after)
+            first, second = t.production(domestic, before), t.production(domestic, after)
+            self.assertEqual(rise.rises, [b - a for a, b in zip(first.amounts, second.amounts)])
+            self.assertEqual(rise.rounds, max(first.rounds, second.rounds))
+            self.assertEqual(rise, expected or rise)
+            added = [b - a for a, b in zip(before, after)]
+            self.assertTrue(all(r >= a for r, a in zip(rise.rises, added)))
+            self.assertLess(sum(rise.rises), 20 * sum(added) + 20 * len(added))
+
+    def test_equal_demands(self):
+        for demand in (DEMAND, [0, 0], [2_000_000_000, 1]):
+            self.assertEqual(t.impact(DOMESTIC, demand, demand), ([0, 0], t.production(DOMESTIC, demand).rounds))
+        self.assertEqual(t.impact(DOMESTIC, DEMAND, DEMAND, 9), ([0, 0], 9))
 
 
 class Files(unittest.TestCase):
