@@ -8,12 +8,12 @@ use model::SECTORS;
 use production::refuse;
 use settle_loop::settle;
 ghost use mathlib.Core.Path.{_≡_};
-ghost use Prim.Native.Nat.{ℕ, _<_, _≤_};
 ghost use lib.ListN.{length};
-ghost use Rattle.model.specs.Numbers.{at, cell, tabulate};
-ghost use Rattle.model.specs.Checks.{reportRounds, demandLimit};
-ghost use Rattle.model.specs.Promises.{AcceptedMatrix, NowhereBelow, added};
+ghost use Rattle.model.specs.Numbers.{at, tabulate};
+ghost use Rattle.model.specs.Checks.{reportRounds};
+ghost use Rattle.model.specs.Promises.{NowhereBelow, added};
 ghost use Rattle.model.specs.Contracts.{Compared};
+ghost use Rattle.theory_rounds.specs.Search.{Settleable};
 ghost use Rattle.impact.specs.Comparing.{BothSettled};
 
 // Takes the first production off the second, which `out` holds.
@@ -26,22 +26,23 @@ fn subtract(n: usize, first: &[u64], out: &mut [u64])
     }
 }
 
-// Settles both demands and leaves the rise, with the larger count of rounds; or number 9, with the outputs at 0. The work cells are cleared.
+// Settles both demands and leaves the rise, with the larger count of rounds; or number 9, with the outputs at 0. The first production stands in
+// `first`; the work cells are cleared.
 fn settle_both(
     n: usize,
     d: &[u64],
     before: &[u64],
     after: &[u64],
     budget: u32,
+    first: &mut [u64],
     out: &mut [u64],
     work: &mut [u64],
 ) -> Outcome
-    requires { ⌜ AcceptedMatrix n (now d) × (length (now before) ≡ n) × (length (now after) ≡ n) × (length (now out) ≡ n) × (length (now work) ≡ n) ⌝ }
-    requires { ⌜ ((i : ℕ) → i < n → cell (now before) i ≤ demandLimit) × ((i : ℕ) → i < n → cell (now after) i ≤ demandLimit) × NowhereBelow n (now before) (now after) ⌝ }
+    requires { ⌜ Settleable n (now d) (now before) × Settleable n (now d) (now after) × NowhereBelow n (now before) (now after) ⌝ }
+    requires { ⌜ (length (now first) ≡ n) × (length (now out) ≡ n) × (length (now work) ≡ n) ⌝ }
     ensures { λ r. ⌜ BothSettled n (at n (now (d .entry))) (now (before .entry)) (now (after .entry)) budget (reportRounds r) (now (out .exit)) (now (work .exit)) ⌝ }
 {
-    let mut first = [0u64; SECTORS];
-    let earlier = settle(n, d, before, budget, &mut first[..n], work);
+    let earlier = settle(n, d, before, budget, first, work);
     let Outcome::Settled { rounds: k } = earlier else {
         fill_zero(out);
         return earlier;
@@ -50,10 +51,28 @@ fn settle_both(
     let Outcome::Settled { rounds: m } = later else {
         return later;
     };
-    subtract(n, &first[..n], out);
+    subtract(n, first, out);
     Outcome::Settled {
         rounds: larger(k, m),
     }
+}
+
+// The same, with cells of its own for the first production.
+fn compare(
+    n: usize,
+    d: &[u64],
+    before: &[u64],
+    after: &[u64],
+    budget: u32,
+    out: &mut [u64],
+    work: &mut [u64],
+) -> Outcome
+    requires { ⌜ Settleable n (now d) (now before) × Settleable n (now d) (now after) × NowhereBelow n (now before) (now after) ⌝ }
+    requires { ⌜ (length (now out) ≡ n) × (length (now work) ≡ n) ⌝ }
+    ensures { λ r. ⌜ BothSettled n (at n (now (d .entry))) (now (before .entry)) (now (after .entry)) budget (reportRounds r) (now (out .exit)) (now (work .exit)) ⌝ }
+{
+    let mut first = [0u64; SECTORS];
+    settle_both(n, d, before, after, budget, &mut first[..n], out, work)
 }
 
 // The rise of each sector's production from the demand `before` to the demand `after`. What it promises is `Compared`.
@@ -71,6 +90,6 @@ pub fn impact(
     let checked = check_impact(n, d, before, after, out.len(), work.len());
     match checked {
         Answer::Refused { number, place } => refuse(number, place, out, work),
-        Answer::Accepted => settle_both(n, d, before, after, budget, out, work),
+        Answer::Accepted => compare(n, d, before, after, budget, out, work),
     }
 }

@@ -224,14 +224,7 @@ fn uneven_schemes() {
     let d = [259750, 398963, 235662, 247592];
     produce(b"lower demand", 2, d, [41, 24], 1400);
     produce(b"higher demand", 2, d, [42, 24], 1400);
-    compare_lent(
-        b"lower takes longer",
-        2,
-        &d,
-        &[41, 24],
-        &[42, 24],
-        1400,
-    );
+    compare_lent(b"lower takes longer", 2, &d, &[41, 24], &[42, 24], 1400);
     compare_lent(b"first not settled", 2, &d, &[41, 24], &[42, 24], 8);
 }
 
