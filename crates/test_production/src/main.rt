@@ -1,6 +1,5 @@
 // Runs the calls on the worked cases of document 01 and on their neighbours, and prints each answer with every output and work cell. Each
 // slice that is lent holds 7 in every cell before the call.
-use impact::impact;
 use implied::implied_demand;
 use production::price;
 use production::production;
@@ -77,37 +76,6 @@ fn rise_lent(d: &[u64], w: &[u64], budget: u32) {
     let mut out = [7u64; 2];
     let mut work = [7u64; 2];
     show_outcome(price(2, d, w, budget, &mut out, &mut work));
-    show_slices(&out, &work);
-}
-
-// What a scheme adds, on two output cells and two work cells.
-fn compare_lent(name: &[u8], n: usize, d: &[u64], before: &[u64], after: &[u64], budget: u32) {
-    let mut out = [7u64; 2];
-    let mut work = [7u64; 2];
-    show_word(name);
-    show_outcome(impact(n, d, before, after, budget, &mut out, &mut work));
-    show_slices(&out, &work);
-}
-
-// The same at the worked matrix.
-fn compare(name: &[u8], before: [u64; 2], after: [u64; 2], budget: u32) {
-    compare_lent(name, 2, &D, &before, &after, budget);
-}
-
-// What a scheme adds to forty sectors that all buy alike.
-fn compare_forty(name: &[u8], d: u64, before: u64, after: u64) {
-    let mut out = [7u64; 40];
-    let mut work = [7u64; 40];
-    show_word(name);
-    show_outcome(impact(
-        40,
-        &[d; 1600],
-        &[before; 40],
-        &[after; 40],
-        1400,
-        &mut out,
-        &mut work,
-    ));
     show_slices(&out, &work);
 }
 
@@ -210,48 +178,6 @@ fn totals() {
     imply(b"total that would wrap", D, 18446744073709551615, 1);
 }
 
-fn schemes() {
-    compare(b"scheme", [625, 1280], [635, 1280], 1400);
-    compare(b"scheme least budget", [625, 1280], [635, 1280], 10);
-    compare(b"second not settled", [625, 1280], [635, 1280], 9);
-    compare(b"neither settled", [625, 1280], [635, 1280], 8);
-    compare(b"no change", [625, 1280], [625, 1280], 9);
-    compare(b"nothing, budget 0", [0, 0], [0, 0], 0);
-    compare_forty(b"largest scheme", 23750, 0, 2000000000);
-}
-
-fn uneven_schemes() {
-    let d = [259750, 398963, 235662, 247592];
-    produce(b"lower demand", 2, d, [41, 24], 1400);
-    produce(b"higher demand", 2, d, [42, 24], 1400);
-    compare_lent(b"lower takes longer", 2, &d, &[41, 24], &[42, 24], 1400);
-    compare_lent(b"first not settled", 2, &d, &[41, 24], &[42, 24], 8);
-}
-
-fn scheme_refusals() {
-    compare(b"second below", [625, 1280], [626, 1279], 0);
-    compare(b"first over", [0, 2000000001], [2000000001, 0], 9);
-    compare(b"second over", [625, 1280], [624, 2000000001], 9);
-    compare_lent(
-        b"7 before 17",
-        2,
-        &[950001, 0, 0, 0],
-        &[1, 0],
-        &[0, 2000000001],
-        9,
-    );
-    compare_lent(b"first long", 2, &D, &[625, 1280, 0], &[635, 1280], 9);
-    compare_lent(b"second short", 2, &D, &[625, 1280], &[635], 9);
-    compare_lent(
-        b"scheme of forty-one",
-        41,
-        &D,
-        &[625, 1280],
-        &[635, 1280],
-        9,
-    );
-}
-
 fn main() {
     budgets();
     implied_cases();
@@ -263,7 +189,4 @@ fn main() {
     limits();
     demand_limits();
     totals();
-    schemes();
-    uneven_schemes();
-    scheme_refusals();
 }
