@@ -21,22 +21,7 @@ told p = p .before .before .before .before
 abbrev second : tie.After-later → tie.After-settle2
 second p = p .before .before .before .before .before .before
 
-returns : tie.Need-returns
-returns c =
-    let q = c .before .before .before .before .before .before .before .before .before .before in
-    let a = entry q .args in
-    first-stops (a .n) (at (a .n) (a .d .now)) (a .before .now) (a .after .now) (a .budget) (q .settle .ensures)
-    (c .before .before .before .before .enum-told .given .1)
-    (c .before .before .fill-zero .ensures ∙ ap (λ (k : ℕ). replicate k 0) (entry q .pre .1 .1))
-
-returns-2 : tie.Need-returns-2
-returns-2 c =
-    let p = c .before .before .before .before .before .before in
-    let q = first (told p) in
-    let a = entry q .args in
-    second-stops (a .n) (at (a .n) (a .d .now)) (a .before .now) (a .after .now) (a .budget) (q .settle .ensures) (told p .earlier .given .1)
-    (p .settle2 .ensures) (c .enum-told2 .given .1)
-
+-- both settle
 returns-3 : tie.Need-returns-3
 returns-3 c =
     let o = c .before .before .before .before .before .before .before in
@@ -45,6 +30,23 @@ returns-3 c =
     let a = entry q .args in
     both-settle (a .n) (at (a .n) (a .d .now)) (a .before .now) (a .after .now) (a .budget) (q .settle .ensures) (told p .earlier .given .1)
     (p .settle2 .ensures) (o .later .given .1) (c .larger .ensures) (c .before .before .before .subtract .ensures)
+
+-- the second does not, and the first does not
+returns-2 : tie.Need-returns-2
+returns-2 c =
+    let p = c .before .before .before .before .before .before in
+    let q = first (told p) in
+    let a = entry q .args in
+    second-stops (a .n) (at (a .n) (a .d .now)) (a .before .now) (a .after .now) (a .budget) (q .settle .ensures) (told p .earlier .given .1)
+    (p .settle2 .ensures) (c .enum-told2 .given .1)
+
+returns : tie.Need-returns
+returns c =
+    let q = c .before .before .before .before .before .before .before .before .before .before in
+    let a = entry q .args in
+    first-stops (a .n) (at (a .n) (a .d .now)) (a .before .now) (a .after .now) (a .budget) (q .settle .ensures)
+    (c .before .before .before .before .enum-told .given .1)
+    (c .before .before .fill-zero .ensures ∙ ap (λ (k : ℕ). replicate k 0) (entry q .pre .1 .1))
 
 subtract-requires : tie.Need-subtract-requires
 subtract-requires c κs =
