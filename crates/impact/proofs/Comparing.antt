@@ -8,12 +8,12 @@ use borrow.Author.Tests.{leb-true}
 use lib.ListN.{replicate}
 use Rattle.model.specs.Numbers.{tabulate}
 use Rattle.model.specs.Rounds.{settling, settled, Settles, impact, impactRounds}
-use Rattle.model.specs.Checks.{Report, Check, accepts, reportRounds, output, single, settles}
+use Rattle.model.specs.Checks.{Check, accepts, reportRounds, output, single, settles}
 use Rattle.model.specs.Promises.{NowhereBelow, added}
 use Rattle.model.specs.declared.Outcome.{Outcome}
 use Rattle.model.specs.declared.Outcome.the-variants.{Settled, Refused}
 use Rattle.theory.proofs.Verdicts.{single-passed, single-accepted, refuse-on}
-use Rattle.theory_rounds.specs.Search.{nine, Settlement}
+use Rattle.theory_rounds.specs.Search.{Settlement}
 use Rattle.theory_rounds.proofs.Settling.{counted}
 use Rattle.theory_impacts.proofs.Rises.{none-falls}
 use Rattle.impact.specs.Comparing.{BothSettled}

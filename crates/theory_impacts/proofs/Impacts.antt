@@ -1,11 +1,11 @@
 -- What the checks of two demands say, and what is promised of the rise from the one to the other. Assumes nothing.
-use mathlib.Core.Path.{_≡_, refl, sym, ap, subst⁻¹, _∙_}
+use mathlib.Core.Path.{_≡_, refl, sym, ap, _∙_}
 use mathlib.Core.Logic.{_↔_}
 use mathlib.Core.Bool.{Bool, true, false, _&&_, cond}
 use mathlib.Core.List.{List, [], _∷_, _++_}
-use Prim.Native.Nat.{ℕ, _+_, _*_, _-_, _≤_, _<_}
+use Prim.Native.Nat.{ℕ, _*_, _<_}
 use native.Mathlib.Omega.{arith}
-use native.Mathlib.Nat.{le-refl, sub-self, sub-add-cancel, add-comm}
+use native.Mathlib.Nat.{le-refl}
 use borrow.Author.Tests.{le-leb, leb-true}
 use lib.Dec.{eqb}
 use lib.ListN.{length, replicate}
