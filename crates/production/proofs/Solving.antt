@@ -13,6 +13,7 @@ use Rattle.theory_rounds.specs.Search.{Solved, Cleared, Settlement}
 use Rattle.theory_rounds.proofs.Answers.{Started, started, solved-stop, solved-on}
 use Rattle.production.specs.Solving.{Checked}
 
+-- what such a call answers and leaves
 abbrev pub Called : (n : ℕ) (d : List ℕ) (c : ℕ → ℕ → ℕ) (limit : ℕ) (s : List ℕ) (budget outs works : ℕ) (r : Report) (out work : List ℕ) → Type 0
 Called n d c limit s budget outs works = Solved (settlingChecks n d c limit s budget (outs ∷ works ∷ [])) (settling n c s budget) (settled n c s budget) outs works
 

@@ -15,6 +15,7 @@ use Rattle.model.specs.Checks.{Report, Check, verdict, output, lengths, demandC
 use Rattle.model.specs.Calls.{matrixChecks, settlingChecks, productionReport, impactReport}
 use Rattle.model.specs.Promises.{AcceptedMatrix, Equal, NowhereBelow, added, Rises}
 use Rattle.model.specs.Contracts.{Compared}
+use Rattle.theory.specs.Slices.{Each}
 use Rattle.theory.proofs.Sums.{sum-cong}
 use Rattle.theory.proofs.Lists.{length-tabulate, cell-tabulate, zeroed, and-true}
 use Rattle.theory.proofs.Verdicts.{Passes, AllPass, accepted-all, all-accepted, output-given, output-from}
@@ -58,6 +59,14 @@ module _ (n : ℕ) (matrices : List ℕ) (a b : ℕ) (lent : List ℕ) where
       let s = and-true (all (eqb (n * n)) matrices) (eqb n a && all (eqb n) lent) (p 0 (le-refl 1)) in
       let t = and-true (eqb n a) (all (eqb n) lent) (s .1) in
       λ _ _. rw (s .0, t .0) (and-true (all (eqb (n * n)) matrices) (eqb n b && all (eqb n) lent) (q 0 (le-refl 1)) .1)
+
+-- an accepted call: both demands settle, the second is nowhere below the first
+pub record BothAccepted (n : ℕ) (d before after : List ℕ) (budget : ℕ) (lent : List ℕ) : Type 0 where
+  pub matrix : AcceptedMatrix n d
+  pub slices : Each n lent
+  pub first : Settles n (at n d) before (settling n (at n d) before budget) (settled n (at n d) before budget)
+  pub second : Settles n (at n d) after (settling n (at n d) after budget) (settled n (at n d) after budget)
+  pub below : NowhereBelow n before after
 
 module _ (n : ℕ) (d before after lent : List ℕ) where
   -- 1, 2, 7, 8 of both and 17: what is known of the slices
@@ -114,17 +123,13 @@ module _ (n : ℕ) (d before after lent : List ℕ) where
             said bothChecks larger (both-pass (accepted-all (checksOf before) (counts before) a) (accepted-all (checksOf after) (counts after) b) o)
 
     -- so where the call is accepted both demands settle
-    pub both-settle : impactReport n d before after budget lent .accepted ≡ true
-        → (Started n d demandLimit before lent × Settles n (at n d) before (settling n (at n d) before budget) (settled n (at n d) before budget))
-        × (Started n d demandLimit after lent × Settles n (at n d) after (settling n (at n d) after budget) (settled n (at n d) after budget))
-        × NowhereBelow n before after
+    pub accepted-both : impactReport n d before after budget lent .accepted ≡ true → BothAccepted n d before after budget lent
     unfolding productionReport
-    both-settle a =
-        let p = asks .0 a in (
-          accepted-settled n d (at n d) demandLimit before budget lent (p .0),
-          accepted-settled n d (at n d) demandLimit after budget lent (p .1),
-          p .2,
-        )
+    accepted-both a =
+        let p = asks .0 a in
+        let s = accepted-settled n d (at n d) demandLimit before budget lent (p .0) in
+        let t = accepted-settled n d (at n d) demandLimit after budget lent (p .1) in
+        record { matrix = s .0 .matrix; slices = s .0 .slices; first = s .1; second = t .1; below = p .2 }
 
 -- ---- at the call: what answers and leaves what the definitions say keeps every promise
 pub compared : (n : ℕ) (d before after : List ℕ) (budget : ℕ) (out₀ work₀ : List ℕ) {r : Report} {out work : List ℕ}
@@ -136,10 +141,9 @@ compared n d before after budget out₀ work₀ {r} {out} e o z =
       outputs = o;
       cleared = z;
       asks = rw e (asks n d before after lent budget);
-      settles = λ a. let p = known a in (p .0 .1, p .1 .1);
+      settles = λ a. (known a .first, known a .second);
       rises = λ a.
-          let p = known a in
-          rises (p .0 .0 .matrix) (p .2) (p .0 .1) (p .1 .1)
+          rises (known a .matrix) (known a .below) (known a .first) (known a .second)
           (λ i h. ap (λ (l : List ℕ). cell l i) (o ∙ output-given r (length out₀) risen a) ∙ impact-cell n (at n d) before after budget i h);
       equal = λ q. o ∙ output-from r {len = length out₀} refl (nothing q) ∙ either (replicate (length out₀) 0) (r .accepted);
     }
@@ -150,19 +154,15 @@ compared n d before after budget out₀ work₀ {r} {out} e o z =
     risen : List ℕ
     risen = impact n (at n d) before after budget
 
-    known : r .accepted ≡ true
-        → (Started n d demandLimit before lent × Settles n (at n d) before (settling n (at n d) before budget) (settled n (at n d) before budget))
-        × (Started n d demandLimit after lent × Settles n (at n d) after (settling n (at n d) after budget) (settled n (at n d) after budget))
-        × NowhereBelow n before after
-    known a = both-settle n d before after lent budget (ap (λ (r : Report). r .accepted) (sym e) ∙ a)
+    known : r .accepted ≡ true → BothAccepted n d before after budget lent
+    known a = accepted-both n d before after lent budget (ap (λ (r : Report). r .accepted) (sym e) ∙ a)
 
     -- equal demands settle at equal productions
     nothing : Equal n before after → r .accepted ≡ true → risen ≡ replicate (length out₀) 0
     nothing q a =
-        let p = known a in
         zeroed n n risen (length-impact n (at n d) before after budget) (le-refl n)
-        (λ i h. impact-cell n (at n d) before after budget i h ∙ omega (arith, equal-starts n (at n d) (p .0 .1) (p .1 .1) .1 q i h))
-        ∙ ap (λ (k : ℕ). replicate k 0) (sym (p .0 .0 .slices .0))
+        (λ i h. impact-cell n (at n d) before after budget i h ∙ omega (arith, equal-starts n (at n d) (known a .first) (known a .second) .1 q i h))
+        ∙ ap (λ (k : ℕ). replicate k 0) (sym (known a .slices .0))
 
     either : (l : List ℕ) (b : Bool) → cond b l l ≡ l
     either l true = refl
