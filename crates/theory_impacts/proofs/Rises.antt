@@ -1,14 +1,12 @@
 -- What a start that is nowhere below another adds to the settled amounts: for any gauge. Assumes nothing.
-use mathlib.Core.Path.{sym}
 use mathlib.Core.List.{List}
 use Prim.Native.Nat.{ℕ, _+_, _*_, _-_, _≤_, _<_}
 use native.Mathlib.Omega.{arith}
-use native.Mathlib.Nat.{sub-add-cancel}
-use Rattle.model.specs.Numbers.{one, cell}
+use Rattle.model.specs.Numbers.{one}
 use Rattle.model.specs.Rounds.{weighted, Settles}
 use Rattle.model.specs.Promises.{NowhereBelow, added}
 use Rattle.theory_rounds.proofs.Gauge.{Gauge, bounded}
-use Rattle.theory_rounds.proofs.Rounds.{weighted-cong, weighted-add, intermediate-within, intermediate-lost, intermediate-mono, ordered, settles-fixed}
+use Rattle.theory_rounds.proofs.Rounds.{intermediate-apart, intermediate-mono, ordered, settles-fixed}
 
 module _ (n : ℕ) (c : ℕ → ℕ → ℕ) {s y t z : List ℕ} {k m : ℕ} (p : NowhereBelow n s t) (σ : Settles n c s k y) (τ : Settles n c t m z) where
   -- no sector falls
@@ -33,13 +31,4 @@ module _ (n : ℕ) (c : ℕ → ℕ → ℕ) {s y t z : List ℕ} {k m : ℕ} (p
       where
         passed : (i : ℕ) → i < n → one * added y z i ≤ one * added s t i + (one - 1) + weighted n c (added y z) i
         passed i h =
-            omega (
-              arith,
-              p i h,
-              settles-fixed n c σ i h,
-              settles-fixed n c τ i h,
-              intermediate-within n c (cell z) i,
-              intermediate-lost n c (cell y) i,
-              weighted-cong n c (λ j l. sym (sub-add-cancel (none-falls j l))) i,
-              weighted-add n c (added y z) (cell y) i,
-            )
+            omega (arith, p i h, settles-fixed n c σ i h, settles-fixed n c τ i h, intermediate-apart n c none-falls i)

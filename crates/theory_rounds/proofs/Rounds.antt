@@ -6,7 +6,7 @@ use mathlib.Core.Bool.{false, true≢false}
 use mathlib.Core.List.{List}
 use Prim.Native.Nat.{ℕ, zero, suc, _+_, _*_, _-_, _/_, _≤_, _<_}
 use native.Mathlib.Omega.{arith}
-use native.Mathlib.Nat.{le-refl, le-trans, le-of-eq, le-antisymm, mul-le-mul-left, mul-le-mul-right, mul-comm, mul-left-comm, le-div-iff-mul-le, mul-div-le, mul-add}
+use native.Mathlib.Nat.{le-refl, le-trans, le-of-eq, le-antisymm, mul-le-mul-left, mul-le-mul-right, mul-comm, mul-left-comm, le-div-iff-mul-le, mul-div-le, mul-add, sub-add-cancel}
 use borrow.Author.Tests.{not-false}
 use lib.ListN.{length}
 use Rattle.model.specs.Numbers.{one, sum, cell, same}
@@ -50,6 +50,18 @@ module _ (n : ℕ) (c : ℕ → ℕ → ℕ) where
   pub intermediate-lost : (f : ℕ → ℕ) (i : ℕ) → weighted n c f i ≤ one * intermediate n c f i + (one - 1)
   unfolding intermediate
   intermediate-lost f i = omega arith
+
+  -- where the amounts rise it rises by no more than what is passed on of the rise, and what rounding down loses
+  pub intermediate-apart : {f g : ℕ → ℕ} → ((j : ℕ) → j < n → f j ≤ g j) → (i : ℕ)
+      → one * intermediate n c g i ≤ one * intermediate n c f i + (one - 1) + weighted n c (λ j. g j - f j) i
+  intermediate-apart {f} {g} p i =
+      omega (
+        arith,
+        intermediate-within g i,
+        intermediate-lost f i,
+        weighted-cong (λ j l. sym (sub-add-cancel (p j l))) i,
+        weighted-add (λ j. g j - f j) f i,
+      )
 
   -- y is what a round from s makes of y
   abbrev pub Fixed : List ℕ → List ℕ → Type 0
