@@ -20,8 +20,8 @@ use Rattle.impact.specs.Comparing.{BothSettled}
 
 -- a start that settles: question 9 passes with its count, and the amounts are settled
 module _ (n : ℕ) (c : ℕ → ℕ → ℕ) (s : List ℕ) (budget : ℕ) {r : Outcome} {k : ℕ} {out work : List ℕ} (σ : Settlement n c s budget (reportRounds r) out work) (e : r ≡ Settled k) where
-  nine-passed : (settles n c s budget ≡ true) × (k ≡ settling n c s budget)
-  nine-passed = single-accepted 9 (settling n c s budget) k (settles n c s budget) (sym (ap reportRounds e) ∙ σ .answer)
+  nine-told : (settles n c s budget ≡ true) × (k ≡ settling n c s budget)
+  nine-told = single-accepted 9 (settling n c s budget) k (settles n c s budget) (sym (ap reportRounds e) ∙ σ .answer)
 
   settled-out : out ≡ settled n c s budget
   settled-out = σ .outputs ∙ ap (λ (o : Outcome). output (reportRounds o) n (settled n c s budget)) e
@@ -29,7 +29,7 @@ module _ (n : ℕ) (c : ℕ → ℕ → ℕ) (s : List ℕ) (budget : ℕ) {r : 
   settled-start : Settles n c s (settling n c s budget) out
   settled-start =
       subst⁻¹ (λ (y : List ℕ). Settles n c s (settling n c s budget) y) settled-out
-      (counted n c s budget (leb-true (settling n c s budget) budget (nine-passed .0)))
+      (counted n c s budget (leb-true (settling n c s budget) budget (nine-told .0)))
 
 module _ (n : ℕ) (c : ℕ → ℕ → ℕ) (s t : List ℕ) (budget : ℕ) where
   -- question 9 of each start, and the larger count
@@ -62,7 +62,7 @@ module _ (n : ℕ) (c : ℕ → ℕ → ℕ) (s t : List ℕ) (budget : ℕ) whe
       second-stops f =
           record {
             answer = ap reportRounds f ∙ sym (refuse-on second [] (settling n c t budget ∷ []) larger _ _ (sym (τ .answer) ∙ ap reportRounds f))
-                ∙ sym (single-passed 9 second larger (nine-passed n c s budget σ e .0));
+                ∙ sym (single-passed 9 second larger (nine-told n c s budget σ e .0));
             outputs = τ .outputs ∙ refused-out f (settled n c t budget) ∙ sym (refused-out f (impact n c s t budget));
             cleared = τ .cleared;
           }
@@ -76,8 +76,8 @@ module _ (n : ℕ) (c : ℕ → ℕ → ℕ) (s t : List ℕ) (budget : ℕ) whe
       unfolding impact impactRounds
       both-settle f g h =
           record {
-            answer = ap (λ (j : ℕ). accepts (j ∷ [])) (g ∙ ap₂ max (nine-passed n c s budget σ e .1) (nine-passed n c t budget τ f .1))
-                ∙ sym (single-passed 9 second larger (nine-passed n c s budget σ e .0) ∙ single-passed 9 [] larger (nine-passed n c t budget τ f .0));
+            answer = ap (λ (j : ℕ). accepts (j ∷ [])) (g ∙ ap₂ max (nine-told n c s budget σ e .1) (nine-told n c t budget τ f .1))
+                ∙ sym (single-passed 9 second larger (nine-told n c s budget σ e .0) ∙ single-passed 9 [] larger (nine-told n c t budget τ f .0));
             outputs = h ∙ ap₂ (λ (y z : List ℕ). tabulate n (added y z)) (settled-out n c s budget σ e) (settled-out n c t budget τ f);
             cleared = τ .cleared;
           }

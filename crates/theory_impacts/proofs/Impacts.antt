@@ -60,7 +60,13 @@ module _ (n : ℕ) (matrices : List ℕ) (a b : ℕ) (lent : List ℕ) where
       let t = and-true (eqb n a) (all (eqb n) lent) (s .1) in
       λ _ _. rw (s .0, t .0) (and-true (all (eqb (n * n)) matrices) (eqb n b && all (eqb n) lent) (q 0 (le-refl 1)) .1)
 
--- an accepted call: both demands settle, the second is nowhere below the first
+-- questions 1, 2, 7, 8 of both and 17 pass
+pub record BothStarted (n : ℕ) (d before after lent : List ℕ) : Type 0 where
+  pub first : Started n d demandLimit before lent
+  pub second : Started n d demandLimit after lent
+  pub below : NowhereBelow n before after
+
+-- and both demands settle: an accepted call
 pub record BothAccepted (n : ℕ) (d before after : List ℕ) (budget : ℕ) (lent : List ℕ) : Type 0 where
   pub matrix : AcceptedMatrix n d
   pub slices : Each n lent
@@ -69,15 +75,14 @@ pub record BothAccepted (n : ℕ) (d before after : List ℕ) (budget : ℕ) (le
   pub below : NowhereBelow n before after
 
 module _ (n : ℕ) (d before after lent : List ℕ) where
-  -- 1, 2, 7, 8 of both and 17: what is known of the slices
-  pub both-started : AllPass (matrixChecks n d [] (length before ∷ length after ∷ lent) ++ demandChecks n before after)
-      → Started n d demandLimit before lent × Started n d demandLimit after lent × NowhereBelow n before after
+  pub both-started : AllPass (matrixChecks n d [] (length before ∷ length after ∷ lent) ++ demandChecks n before after) → BothStarted n d before after lent
   both-started (s, (l, (c, (p, (q, (o, _)))))) =
-      let e = each-long n (length d ∷ []) (length before) (length after) lent l in (
-        started n d demandLimit before lent (s, (e .0, (c, (p, tt)))),
-        started n d demandLimit after lent (s, (e .1, (c, (q, tt)))),
-        λ i h. leb-true (cell before i) (cell after i) (o i h),
-      )
+      let e = each-long n (length d ∷ []) (length before) (length after) lent l in
+      record {
+        first = started n d demandLimit before lent (s, (e .0, (c, (p, tt))));
+        second = started n d demandLimit after lent (s, (e .1, (c, (q, tt))));
+        below = λ i h. leb-true (cell before i) (cell after i) (o i h);
+      }
 
   module _ (budget : ℕ) where
     abbrev bothChecks : List Check

@@ -5,15 +5,14 @@ use borrow.Author.Needs.{needs}
 use lib.ListN.{length}
 use Rattle.model.specs.Numbers.{at}
 use Rattle.model.specs.Rounds.{impact, impactRounds}
-use Rattle.model.specs.Checks.{Report, Check, demandLimit, demandChecks, bothSettle}
+use Rattle.model.specs.Checks.{Report, Check, demandChecks, bothSettle}
 use Rattle.model.specs.Calls.{matrixChecks, impactReport}
-use Rattle.model.specs.Promises.{NowhereBelow}
 use Rattle.model.specs.Contracts.{Compared}
 use Rattle.theory.proofs.Verdicts.{answered-pass}
 use Rattle.theory_rounds.specs.Search.{Solved}
 use Rattle.theory_rounds.proofs.Alike.{rows-settleable}
-use Rattle.theory_rounds.proofs.Answers.{Started, solved-stop, solved-on}
-use Rattle.theory_impacts.proofs.Impacts.{both-started, compared}
+use Rattle.theory_rounds.proofs.Answers.{solved-stop, solved-on}
+use Rattle.theory_impacts.proofs.Impacts.{BothStarted, both-started, compared}
 use Rattle.impact.proofs.impact.Statement.{statement}
 use Rattle.impact.proofs.impact.Tie as tie
 
@@ -43,8 +42,7 @@ kept q e =
     compared (a .n) (a .d .now) (a .before .now) (a .after .now) (a .budget) (a .out .now) (a .work .now) (e .answer) (e .outputs) (e .cleared)
 
 -- what an accepted check says of the slices
-known : (p : tie.After-enum-told) → let q = p .before .before in let a = entry q .args in
-    Started (a .n) (a .d .now) demandLimit (a .before .now) (lent q) × Started (a .n) (a .d .now) demandLimit (a .after .now) (lent q) × NowhereBelow (a .n) (a .before .now) (a .after .now)
+known : (p : tie.After-enum-told) → let q = p .before .before in let a = entry q .args in BothStarted (a .n) (a .d .now) (a .before .now) (a .after .now) (lent q)
 known p =
     let q = p .before .before in
     let a = entry q .args in
@@ -60,17 +58,16 @@ returns-2 : tie.Need-returns-2
 returns-2 c =
     let p = c .before .before .before .before .before .before .before in
     let q = p .before .before in
-    let l = known p .0 .slices in
+    let l = known p .first .slices in
     kept q (solved-on (asked q) (q .check-impact .ensures) (last q) (p .enum-told .given .1) (l .0) (l .1 .0) (c .before .before .before .before .compare .ensures))
 
 compare-requires : tie.Need-compare-requires
 compare-requires c κs =
     let p = c .before .before in
     let a = entry (p .before .before) .args in
-    let k = known p in
-    let s = k .0 in
-    let t = k .1 in (
-      (rows-settleable (s .matrix) (a .before .now) (s .start) (s .small), rows-settleable (t .matrix) (a .after .now) (t .start) (t .small), k .2),
+    let s = known p .first in
+    let t = known p .second in (
+      (rows-settleable (s .matrix) (a .before .now) (s .start) (s .small), rows-settleable (t .matrix) (a .after .now) (t .start) (t .small), known p .below),
       (s .slices .0, s .slices .1 .0),
     )
 
