@@ -31,10 +31,16 @@ asked q =
 abbrev last : tie.After-check-impact → List Check
 last q = let a = entry q .args in bothSettle (a .n) (at (a .n) (a .d .now)) (a .before .now) (a .after .now) (a .budget)
 
+-- the larger count, and the rise
+abbrev count : tie.After-check-impact → ℕ
+count q = let a = entry q .args in impactRounds (a .n) (at (a .n) (a .d .now)) (a .before .now) (a .after .now) (a .budget)
+
+abbrev result : tie.After-check-impact → List ℕ
+result q = let a = entry q .args in impact (a .n) (at (a .n) (a .d .now)) (a .before .now) (a .after .now) (a .budget)
+
 -- what is answered and left keeps the promises
 kept : (q : tie.After-check-impact) {r : Report} {out work : List ℕ} → let a = entry q .args in
-    Solved (asked q ++ last q) (impactRounds (a .n) (at (a .n) (a .d .now)) (a .before .now) (a .after .now) (a .budget))
-    (impact (a .n) (at (a .n) (a .d .now)) (a .before .now) (a .after .now) (a .budget)) (length (a .out .now)) (length (a .work .now)) r out work
+    Solved (asked q ++ last q) (count q) (result q) (length (a .out .now)) (length (a .work .now)) r out work
     → Compared (a .n) (a .d .now) (a .before .now) (a .after .now) (a .budget) (a .out .now) (a .work .now) r out work
 unfolding impactReport
 kept q e =
@@ -59,7 +65,7 @@ returns-2 c =
     let p = c .before .before .before .before .before .before .before in
     let q = p .before .before in
     let l = known p .first .slices in
-    kept q (solved-on (asked q) (q .check-impact .ensures) (last q) (p .enum-told .given .1) (l .0) (l .1 .0) (c .before .before .before .before .compare .ensures))
+    kept q (solved-on (asked q) (q .check-impact .ensures) (last q) {count = count q} {result = result q} (p .enum-told .given .1) (l .0) (l .1 .0) (c .before .before .before .before .compare .ensures))
 
 compare-requires : tie.Need-compare-requires
 compare-requires c κs =
