@@ -1,6 +1,6 @@
 -- Two starts, settled one after the other: what is answered and left where the first does not settle, where the second does not, and where both do.
 -- Assumes nothing.
-use mathlib.Core.List.{List, [], _∷_}
+use mathlib.Core.List.{List, [], _∷_, _++_}
 use mathlib.Core.Path.{_≡_, sym, ap, ap₂, subst⁻¹, _∙_}
 use mathlib.Core.Bool.{true}
 use Prim.Native.Nat.{ℕ, max}
@@ -8,7 +8,7 @@ use borrow.Author.Tests.{leb-true}
 use lib.ListN.{replicate}
 use Rattle.model.specs.Numbers.{tabulate}
 use Rattle.model.specs.Rounds.{settling, settled, Settles, impact, impactRounds}
-use Rattle.model.specs.Checks.{Check, accepts, reportRounds, output, single, settles}
+use Rattle.model.specs.Checks.{Check, accepts, reportRounds, verdict, output, single, settles}
 use Rattle.model.specs.Promises.{NowhereBelow, added}
 use Rattle.model.specs.declared.Outcome.{Outcome}
 use Rattle.model.specs.declared.Outcome.the-variants.{Settled, Refused}
@@ -42,7 +42,11 @@ module _ (n : ℕ) (c : ℕ → ℕ → ℕ) (s t : List ℕ) (budget : ℕ) whe
   abbrev larger : List ℕ
   larger = impactRounds n c s t budget ∷ []
 
-  -- after a refusal no result matters
+  -- a refusal stays one, whatever is asked after it, and then no result matters
+  refused-answer : {r : Outcome} {q p : ℕ} → r ≡ Refused q p → (ps qs : List Check) (count : ℕ) → reportRounds r ≡ verdict ps (count ∷ [])
+      → reportRounds r ≡ verdict (ps ++ qs) larger
+  refused-answer e ps qs count a = ap reportRounds e ∙ sym (refuse-on ps qs (count ∷ []) larger _ _ (sym a ∙ ap reportRounds e))
+
   refused-out : {r : Outcome} {q p : ℕ} → r ≡ Refused q p → (z : List ℕ) → output (reportRounds r) n z ≡ replicate n 0
   refused-out e z = ap (λ (o : Outcome). output (reportRounds o) n z) e
 
@@ -51,7 +55,7 @@ module _ (n : ℕ) (c : ℕ → ℕ → ℕ) (s t : List ℕ) (budget : ℕ) whe
     pub first-stops : {q p : ℕ} → r ≡ Refused q p → {after : List ℕ} → after ≡ replicate n 0 → BothSettled n c s t budget (reportRounds r) after work
     first-stops e z =
         record {
-          answer = ap reportRounds e ∙ sym (refuse-on first second (settling n c s budget ∷ []) larger _ _ (sym (σ .answer) ∙ ap reportRounds e));
+          answer = refused-answer e first second (settling n c s budget) (σ .answer);
           outputs = z ∙ sym (refused-out e (impact n c s t budget));
           cleared = σ .cleared;
         }
@@ -61,8 +65,7 @@ module _ (n : ℕ) (c : ℕ → ℕ → ℕ) (s t : List ℕ) (budget : ℕ) whe
       pub second-stops : {q p : ℕ} → u ≡ Refused q p → BothSettled n c s t budget (reportRounds u) later work₂
       second-stops f =
           record {
-            answer = ap reportRounds f ∙ sym (refuse-on second [] (settling n c t budget ∷ []) larger _ _ (sym (τ .answer) ∙ ap reportRounds f))
-                ∙ sym (single-passed 9 second larger (nine-told n c s budget σ e .0));
+            answer = refused-answer f second [] (settling n c t budget) (τ .answer) ∙ sym (single-passed 9 second larger (nine-told n c s budget σ e .0));
             outputs = τ .outputs ∙ refused-out f (settled n c t budget) ∙ sym (refused-out f (impact n c s t budget));
             cleared = τ .cleared;
           }
