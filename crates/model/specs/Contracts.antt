@@ -85,8 +85,7 @@ pub record Inverted (n : ℕ) (d : Cells) (budget : ℕ) (sheet₀ power₀ sens
   pub powers : power ≡ output r (length power₀) (dispersion n (at n (inverse n d budget)))
   pub sensitivities : sensitivity ≡ output r (length sensitivity₀) (dispersion n (transposed (at n (inverse n d budget))))
 
--- What a scheme adds: the rise of production from a demand before to a demand after (document 02, ticket 4). `rises` says it of the two settled
--- productions, whose counts of rounds `settles` has; the count of the answer is the larger one
+-- What a scheme adds: the rise of production from a demand before to a demand after (document 02, ticket 4)
 pub record Compared (n : ℕ) (d before after : Cells) (budget : ℕ) (out₀ work₀ : Cells) (r : Report) (out work : Cells) : Type 0 where
   pub answer : r ≡ impactReport n d before after budget (length out₀ ∷ length work₀ ∷ [])
   pub outputs : out ≡ output r (length out₀) (impact n (at n d) before after budget)
@@ -96,9 +95,11 @@ pub record Compared (n : ℕ) (d before after : Cells) (budget : ℕ) (out₀ wo
       ↔ ((productionReport n d before budget (length out₀ ∷ length work₀ ∷ []) .accepted ≡ true)
       × (productionReport n d after budget (length out₀ ∷ length work₀ ∷ []) .accepted ≡ true)
       × NowhereBelow n before after)
+  -- both demands settle, at these amounts after these counts of rounds; the count of the answer is the larger of them (`impactRounds`)
   pub settles : r .accepted ≡ true
       → Settles n (at n d) before (settling n (at n d) before budget) (settled n (at n d) before budget)
       × Settles n (at n d) after (settling n (at n d) after budget) (settled n (at n d) after budget)
+  -- the rise between the two: no sector falls, each rises by at least what was added to it, all together by less than 20 × T + 20 × n
   pub rises : r .accepted ≡ true → Rises n before after (settled n (at n d) before budget) (settled n (at n d) after budget) out
   -- equal demands give 0 in every cell, also where the call is refused
   pub equal : Equal n before after → out ≡ replicate (length out₀) 0

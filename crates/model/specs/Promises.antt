@@ -51,11 +51,11 @@ Returns n d y f = (g : Cells) (k : ℕ) → length g ≡ n → Settles n (at n d
 abbrev pub NotAbove : (n : ℕ) (d y f : Cells) → Type 0
 NotAbove n d y f = (z : Cells) (k : ℕ) → Settles n (at n d) f k z → (i : ℕ) → i < n → cell z i ≤ cell y i
 
--- Document 02, ticket 4: "the second nowhere below the first", and what is added to sector i from the start s to the start t. Where t is nowhere
--- below s, this is no difference below 0, which would count as 0
+-- Document 02, ticket 4: two starts, "the second nowhere below the first"
 abbrev pub NowhereBelow : ℕ → Cells → Cells → Type 0
 NowhereBelow n s t = (i : ℕ) → i < n → cell s i ≤ cell t i
 
+-- what is added to sector i from the start s to the start t. Below 0 a difference counts as 0, but t is nowhere below s
 abbrev pub added : Cells → Cells → ℕ → ℕ
 added s t i = cell t i - cell s i
 
