@@ -61,8 +61,12 @@ extern const char tawqeshim_version[];
 #define TAWQESHIM_RISE_LIMIT UINT64_C(1000000000)          /* 8: a direct rise */
 #define TAWQESHIM_PRODUCTION_LIMIT UINT64_C(1600000000000) /* 8: the total of a given production */
 
+/* Budgets that always suffice: with these rounds allowed, or more, no call is refused with 9. */
+#define TAWQESHIM_PRODUCTION_BUDGET UINT32_C(1400) /* of production and impact */
+#define TAWQESHIM_PRICE_BUDGET UINT32_C(1400)      /* of price and inverse */
+
 /* The rounds that a page allows. */
-#define TAWQESHIM_PAGE_BUDGET UINT32_C(1400)
+#define TAWQESHIM_PAGE_BUDGET TAWQESHIM_PRODUCTION_BUDGET
 
 /* What `*number` tells: that the call was accepted, or which question was answered no. Before each stands what it asks, and its place. */
 enum tawqeshim_number {
@@ -167,7 +171,7 @@ void tawqeshim_coefficients(
  *
  * Takes domestic coefficients d, n * n cells; a demand f, n cells; and the rounds allowed.
  * Gives the settled production in out, n cells, and in *rounds the first round that changes no sector, counted from 1. Against an exact
- * balance no sector is too high, and all n together are less than 20 * n short.
+ * balance no sector is too high, and all n together are less than 20 * n short. A budget of 1,400 rounds always suffices.
  * A refusal sets every cell of out to 0. Every cell of work, n cells, is 0 after every call.
  */
 void tawqeshim_production(
@@ -187,7 +191,7 @@ void tawqeshim_production(
  * both alike.
  * Gives in out, n cells, the production settled from after less that settled from before; in *rounds the larger of the two counts, which
  * may be that of the first. No sector falls, each rises by at least what was added to it, and all n together rise by less than
- * 20 * T + 20 * n, with T the total added. Equal demands give 0 in every sector.
+ * 20 * T + 20 * n, with T the total added. Equal demands give 0 in every sector. A budget of 1,400 rounds always suffices.
  * A refusal sets every cell of out to 0. Every cell of work, n cells, is 0 after every call.
  */
 void tawqeshim_impact(
@@ -205,7 +209,7 @@ void tawqeshim_impact(
  *
  * Takes domestic coefficients d, n * n cells; direct rises w, n cells; and the rounds allowed.
  * Gives the settled rises in out, n cells, and their count of rounds. Against an exact balance no rise is above it, and each is less than
- * 20 millionths below.
+ * 20 millionths below. A budget of 1,400 rounds always suffices.
  * A refusal sets every cell of out to 0. Every cell of work, n cells, is 0 after every call.
  */
 void tawqeshim_price(
@@ -261,6 +265,7 @@ void tawqeshim_induced(
  * Takes domestic coefficients d, n * n cells, and the rounds allowed for each column.
  * Gives in sheet, n * n cells, the inverse, whose column j is the production settled from a demand of one in sector j; in power and
  * sensitivity, n cells each, each column sum and each row sum against their mean, in millionths; in *rounds the largest count of a column.
+ * A budget of 1,400 rounds always suffices.
  * A refusal sets every cell of sheet, power and sensitivity to 0.
  */
 void tawqeshim_inverse(
@@ -335,7 +340,8 @@ void tawqeshim_write_table(
 
 /*
  * Reads a table file of any bytes and writes the sheet that is printed of it, as the program roadsheet does: demand, production with 1,400
- * rounds allowed, and induced value added and imports, a line a sector; or the one line `refused`, a number and a place.
+ * rounds allowed, and induced value added and imports, a line a sector; or the one line `refused`, a number and a place. The number is
+ * never 9: the rounds always suffice.
  *
  * Asks 2: out has exactly TAWQESHIM_PAGE (2,851) bytes, which hold every page.
  * Gives in *length how many bytes the page has, and in out the page from the start; every byte after it is 0. A page of `refused` is a

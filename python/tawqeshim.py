@@ -49,7 +49,7 @@ What comes out
 
 n and budget
     The number of sectors is taken from the length of a column, or from the sheet where there is none; `n` states it. `budget` is the
-    number of rounds allowed, 1,400 unless stated.
+    number of rounds allowed, 1,400 unless stated. 1,400 always suffice: question 9 refuses only where fewer are allowed.
 
 Refusals
     A call asks questions of what it is given. The first whose answer is no raises Refused, with the number of the question and a place:
@@ -70,8 +70,13 @@ from pathlib import Path
 from typing import Any, NamedTuple, NoReturn, Optional, Protocol, Union
 
 __version__ = "2.1.0"
-__all__ = ["QUESTIONS", "Refused", "Coefficients", "Production", "Impact", "Prices", "Induced", "Inverse", "Table", "coefficients",
-           "production", "impact", "price", "implied_demand", "induced", "inverse", "row", "read_table", "write_table", "page"]
+__all__ = ["PRODUCTION_BUDGET", "PRICE_BUDGET", "QUESTIONS", "Refused", "Coefficients", "Production", "Impact", "Prices", "Induced", "Inverse",
+           "Table", "coefficients", "production", "impact", "price", "implied_demand", "induced", "inverse", "row", "read_table", "write_table",
+           "page"]
+
+# The rounds that always suffice: of production and impact, and of price and inverse.
+PRODUCTION_BUDGET = 1400
+PRICE_BUDGET = 1400
 
 QUESTIONS: dict[int, str] = {
     1: "is n from 1 to 40?",
@@ -508,10 +513,10 @@ def _settled(call: str, domestic: "Matrix", given: "dict[str, Column]", budget: 
     return out[:], rounds.value
 
 
-def production(domestic: "Matrix", demand: "Column", budget: int = 1400, *, n: Optional[int] = None) -> Production:
+def production(domestic: "Matrix", demand: "Column", budget: int = PRODUCTION_BUDGET, *, n: Optional[int] = None) -> Production:
     """Production from a demand for domestic goods. Asks 1, 2, 7, 8, 9.
 
-    Against the exact balance no sector is too high, and all n sectors together lack less than 20 * n.
+    Against the exact balance no sector is too high, and all n sectors together lack less than 20 * n. The default budget always suffices.
 
     >>> production([[75_000, 150_000], [240_000, 240_000]], [625, 1280])
     Production(amounts=[999, 1999], rounds=9)
@@ -527,12 +532,13 @@ def production(domestic: "Matrix", demand: "Column", budget: int = 1400, *, n: O
     return Production(*_settled("production", domestic, {"demand": demand}, budget, n))
 
 
-def impact(domestic: "Matrix", before: "Column", after: "Column", budget: int = 1400, *, n: Optional[int] = None) -> Impact:
+def impact(domestic: "Matrix", before: "Column", after: "Column", budget: int = PRODUCTION_BUDGET, *,
+           n: Optional[int] = None) -> Impact:
     """What a scheme adds: the rise of each sector's production from the demand `before` to the demand `after`, which is nowhere below it.
     Asks 1, 2, 7, 8, 17, 9; 8 and 9 of the first demand and then of the second. The budget holds for each demand.
 
     No sector falls, each rises by at least what was added to it, and all n sectors together rise by less than 20 * T + 20 * n, with T the
-    total added. Equal demands give 0 in every sector.
+    total added. Equal demands give 0 in every sector. The default budget always suffices.
 
     >>> domestic = [[75_000, 150_000], [240_000, 240_000]]
     >>> impact(domestic, [625, 1280], [635, 1280])
@@ -544,10 +550,10 @@ def impact(domestic: "Matrix", before: "Column", after: "Column", budget: int = 
     return Impact(*_settled("impact", domestic, {"before": before, "after": after}, budget, n))
 
 
-def price(domestic: "Matrix", rises: "Column", budget: int = 1400, *, n: Optional[int] = None) -> Prices:
+def price(domestic: "Matrix", rises: "Column", budget: int = PRICE_BUDGET, *, n: Optional[int] = None) -> Prices:
     """Price rises from direct rises, both in millionths. Asks 1, 2, 7, 8, 9.
 
-    Against the exact balance no rise is too high, and each lacks less than 20 millionths.
+    Against the exact balance no rise is too high, and each lacks less than 20 millionths. The default budget always suffices.
 
     >>> price([[75_000, 150_000], [240_000, 240_000]], [10_000, 0])
     Prices(rises=[11393, 2248], rounds=10)
@@ -593,8 +599,9 @@ def induced(inputs: "Matrix", imports: "Column", value_added: "Column", final_de
     return Induced(value[:], imported[:])
 
 
-def inverse(domestic: "Matrix", budget: int = 1400, *, n: Optional[int] = None) -> Inverse:
-    """The Leontief inverse with its ratios, in millionths. Asks 1, 2, 7, 9. The budget holds for each column.
+def inverse(domestic: "Matrix", budget: int = PRICE_BUDGET, *, n: Optional[int] = None) -> Inverse:
+    """The Leontief inverse with its ratios, in millionths. Asks 1, 2, 7, 9. The budget holds for each column, and
+    the default always suffices.
 
     >>> inverse([[500_000]])
     Inverse(cells=[1999999], power=[1000000], sensitivity=[1000000], rounds=21)

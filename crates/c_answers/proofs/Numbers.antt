@@ -1,23 +1,24 @@
 -- The number alone tells whether a call was accepted: acceptance has number 0, and a refusal another. So what a call promises of its answer, it
 -- promises of the numbers that tell it. Assumes nothing.
-use mathlib.Core.Bool.{Bool, true, false, _&&_, cond}
-use mathlib.Core.List.{List, [], _∷_, _++_, map}
+use mathlib.Core.Bool.{Bool, true}
+use mathlib.Core.List.{List, [], _∷_, _++_}
 use mathlib.Core.Path.{_≡_, refl, sym, subst⁻¹}
-use Prim.Native.Nat.{ℕ, _+_, _≤_}
+use Prim.Native.Nat.{ℕ, _≤_}
 use native.Mathlib.Omega.{arith}
 use borrow.Author.Tests.{ne-eqb, leb-true}
-use lib.Dec.{eqb, leb, ltb}
+use lib.Dec.{eqb, leb}
 use lib.ListN.{length}
-use Rattle.model.specs.Numbers.{at, first, transposed}
+use Rattle.model.specs.Numbers.{at, transposed}
 use Rattle.model.specs.Table.{Table}
 use Rattle.model.specs.Rounds.{settling, inverseRounds, impactRounds}
-use Rattle.model.specs.Checks.{Report, reportRead, reportTold, Check, amountLimit, balanceChecks, bothSettle, countedOn, bounded, refuses, verdict, columnSums, columnsSettle, demandChecks, demandLeft, demandLimit, inducedAmounts, lengths, productionTotal, riseLimit, single, size}
+use Rattle.model.specs.Checks.{Report, reportRead, reportTold, Check, amountLimit, balanceChecks, bothSettle, verdict, columnSums, columnsSettle, demandChecks, demandLeft, demandLimit, inducedAmounts, lengths, productionTotal, riseLimit, single, size}
 use Rattle.model.specs.Calls.{coefficientsReport, domesticCoefficients, impactReport, impliedReport, inducedReport, inverseReport, matrixChecks, priceReport, productionReport, settlingChecks, tableChecks}
 use Rattle.model.specs.Contracts.{Derived, Produced, Priced, Compared, Implied, Induced, Inverted, Slices, readingInto, FileRead, FileWritten, tableFrom, PagePrinted}
 use Rattle.model.specs.File.{Reading, answerOf}
 use Rattle.model.specs.Writer.{written, writerChecks, writerReport}
 use Rattle.model.specs.Page.{page, pageLimit, pageReport}
 use Rattle.theory.proofs.Lists.{and-true}
+use Rattle.theory.proofs.Verdicts.{asked, numbersPass, counted-pass}
 use Rattle.theory_files.specs.Files.{inputLimit}
 use Rattle.theory_files.proofs.Readings.{Answered}
 use Rattle.theory_files.proofs.Beyond.{called-answered}
@@ -29,26 +30,14 @@ Numbered r = r .accepted ≡ eqb (r .number) 0
 
 -- no check of a list has number 0
 abbrev nonzero : List Check → Bool
-nonzero [] = true
-nonzero (q ∷ qs) = leb 1 (q .number) && nonzero qs
+nonzero = numbersPass (leb 1)
 
 numbered : (qs : List Check) (ks : List ℕ) → nonzero qs ≡ true → Numbered (verdict qs ks)
 numbered [] ks e = refl
 numbered (q ∷ qs) ks e =
     let p = and-true (leb 1 (q .number)) (nonzero qs) e in
-    split (ltb place (q .places)) (leb-true 1 (q .number) (p .0)) (numbered qs ks (p .1))
-  where
-    place : ℕ
-    place = first (q .places) (q .passes)
-
-    split : (t : Bool) → 1 ≤ q .number → Numbered (verdict qs ks) → Numbered (cond t (refuses (length ks) (q .number) (q .offset + place)) (verdict qs ks))
-    split true h later = sym (ne-eqb (q .number) 0 (λ e. omega arith))
-    split false h later = later
-
--- slices that are counted on, before checks that have other numbers
-counted-nonzero : (place limit : ℕ) (ss : List (List ℕ)) (qs rs : List Check) → nonzero (qs ++ rs) ≡ true → nonzero (countedOn place (map (bounded 3 0 limit) ss) ++ qs ++ rs) ≡ true
-counted-nonzero place limit [] qs rs e = e
-counted-nonzero place limit (s ∷ ss) qs rs e = counted-nonzero (place + length s) limit ss qs rs e
+    let some = leb-true 1 (q .number) (p .0) in
+    asked Numbered q qs ks (λ _. sym (ne-eqb (q .number) 0 (λ z. omega arith))) (λ _. numbered qs ks (p .1))
 
 -- Theorems, for the reader: each call, from `coefficients-number` to `page-number`, is accepted exactly where its number is 0
 module _ (t : Table) (matrices lent : List ℕ) where
@@ -56,7 +45,7 @@ module _ (t : Table) (matrices lent : List ℕ) where
   unfolding coefficientsReport
   coefficients-number =
       let seventh = columnSums (t .sectors) (at (t .sectors) (domesticCoefficients t)) ∷ [] in
-      numbered (tableChecks t matrices lent ++ seventh) [] (counted-nonzero 0 amountLimit (t .flows ∷ t .columns) (balanceChecks t) seventh refl)
+      numbered (tableChecks t matrices lent ++ seventh) [] (counted-pass (leb 1) 0 amountLimit (t .flows ∷ t .columns) (balanceChecks t) seventh refl refl)
 
 module _ (n : ℕ) (d : List ℕ) where
   pub production-number : (f : List ℕ) (budget : ℕ) (lent : List ℕ) → Numbered (productionReport n d f budget lent)

@@ -11,10 +11,10 @@ use Rattle.model.specs.Rounds.{settling, settled, unit, inverse}
 use Rattle.model.specs.Promises.{AcceptedMatrix}
 use Rattle.inverse_ratios.specs.Columns.{inverseCellLimit, Dispersed}
 use Rattle.inverse_ratios.proofs.Dispersion.{turned}
-use Rattle.inverse_columns.proofs.Leontief.{unit-cell, unit-small, inverse-cell, length-inverse}
+use Rattle.inverse_columns.proofs.Leontief.{inverse-cell, length-inverse}
 use Rattle.theory.proofs.Sums.{sum-most, sum-cell}
 use Rattle.theory_rounds.proofs.Gauge.{total-gauge}
-use Rattle.theory_rounds.proofs.Rounds.{above-start}
+use Rattle.theory_rounds.proofs.Rounds.{above-start, unit-cell, unit-small}
 use Rattle.theory_rounds.proofs.Accuracy.{rounds-bounded}
 
 module _ {n : ℕ} {d : List ℕ} (A : AcceptedMatrix n d) (budget : ℕ) where

@@ -27,17 +27,6 @@ use Rattle.theory.proofs.Verdicts.{passed, failed-each, single-accepted, single
 
 -- ---- the demand of one in sector j
 module _ (n j : ℕ) where
-  pub unit-cell : (i : ℕ) → i < n → cell (unit n j) i ≡ cond (eqb i j) one 0
-  unfolding unit
-  unit-cell i h = cell-tabulate n (λ i. cond (eqb i j) one 0) i h
-
-  pub unit-small : (i : ℕ) → i < n → cell (unit n j) i ≤ one
-  unit-small i h = subst⁻¹ (λ (a : ℕ). a ≤ one) (unit-cell i h) (within (eqb i j))
-    where
-      within : (b : Bool) → cond b one 0 ≤ one
-      within true = le-refl one
-      within false = zero-le
-
   -- as the first n cells of an array
   pub unit-made : n ≤ sectorLimit → j < n → take n (set (replicate sectorLimit 0) j one) ≡ unit n j
   unfolding unit

@@ -181,6 +181,14 @@ settles n c s budget = leb (settling n c s budget) budget
 abbrev pub columnsSettle : (n : ℕ) (d : Cells) (budget : ℕ) → Check
 columnsSettle n d budget = each 9 n (λ j. settles n (at n d) (unit n j) budget)
 
+-- document 02, ticket 5: "a budget of 1,400 settles every production, price and inverse column that passes the other questions". Of productions
+abbrev pub productionBudget : ℕ
+productionBudget = 1_400
+
+-- and of prices and inverse columns, which are in millionths
+abbrev pub priceBudget : ℕ
+priceBudget = 1_400
+
 -- 10. a given production leaves every sector's demand at 0 or above
 abbrev pub demandLeft : ℕ → Sheet → Cells → Check
 demandLeft n c y = each 10 n (λ i. leb (intermediate n c (cell y) i) (cell y i))

@@ -11,12 +11,12 @@ use Rattle.model.specs.Numbers.{Cells, cell, at, transposed}
 use Rattle.model.specs.Table.{Table, tableOf}
 use Rattle.model.specs.Bytes.{Bytes, padded}
 use Rattle.model.specs.Rounds.{settled, Settles, impliedDemand, inducedValueAdded, inducedImports, inverse, dispersion, settling, impact}
-use Rattle.model.specs.Checks.{Report, accepts, verdict, output, reportRead, roundsOf, sectorsOf, bytesOf, tableAmounts, demandLimit}
+use Rattle.model.specs.Checks.{Report, accepts, verdict, output, reportRead, roundsOf, sectorsOf, bytesOf, tableAmounts, demandLimit, productionBudget, priceBudget}
 use Rattle.model.specs.Calls.{coefficientsReport, inputCoefficients, valueAddedCoefficients, importCoefficients, domesticCoefficients, domesticDemands, productionReport, priceReport, impliedReport, inducedReport, inverseReport, impactReport}
 use Rattle.model.specs.Promises.{Equal, Distinguishes, Accurate, AccuratePrices, Returns, NotAbove, NowhereBelow, Rises}
 use Rattle.model.specs.File.{Entry, Reading, reading, called, answerOf, flowsRead, columnRead, columnWord, fileLimit}
 use Rattle.model.specs.Writer.{tableEntries, written, fileBytes, writerReport, InForm, returned}
-use Rattle.model.specs.Page.{pageLimit, pageReport, pageBytes}
+use Rattle.model.specs.Page.{refusalLine, page, pageLimit, pageReport, pageBytes}
 use Rattle.model.specs.Unadjusted.{NoAdjustment, withoutAdjustment, unadjustedReport, unadjustedDemands, WithoutKind10, unadjustedReading, unadjustedFilePage}
 
 -- Sheets from a table t with F, E, M, V and X, by document 01's own formulas, in which there is no G
@@ -51,6 +51,8 @@ pub record Produced (n : ℕ) (d f : Cells) (budget : ℕ) (out₀ work₀ : Cel
   pub settles : r .accepted ≡ true → Settles n (at n d) f (roundsOf r) out
   pub distinct : r .accepted ≡ true → Distinguishes n d f out
   pub accurate : r .accepted ≡ true → Accurate n d f out
+  -- document 02, ticket 5: "Number 9 then never comes from a budget of 1,400 or more"
+  pub enough : r .number ≡ 9 → budget < productionBudget
 
 -- Price rises from direct rises w. `accurate`: against every exact balance of the column direction an accepted rise is nowhere above it, and in each
 -- sector lacks less than 20 millionths
@@ -60,6 +62,7 @@ pub record Priced (n : ℕ) (d w : Cells) (budget : ℕ) (out₀ work₀ : Cells
   pub cleared : work ≡ replicate (length work₀) 0
   pub settles : r .accepted ≡ true → Settles n (transposed (at n d)) w (roundsOf r) out
   pub accurate : r .accepted ≡ true → AccuratePrices n d w out
+  pub enough : r .number ≡ 9 → budget < priceBudget
 
 -- The demand for domestic goods behind a production y. Demand 2 is `returns` and `inverse`: for a production that rounds have settled it is the demand
 -- that they started from, and every production that the call of that name gives is accepted here and gives its demand back. Going back and then
@@ -84,6 +87,7 @@ pub record Inverted (n : ℕ) (d : Cells) (budget : ℕ) (sheet₀ power₀ sens
   pub sheets : sheet ≡ output r (length sheet₀) (inverse n d budget)
   pub powers : power ≡ output r (length power₀) (dispersion n (at n (inverse n d budget)))
   pub sensitivities : sensitivity ≡ output r (length sensitivity₀) (dispersion n (transposed (at n (inverse n d budget))))
+  pub enough : r .number ≡ 9 → budget < priceBudget
 
 -- What a scheme adds: the rise of production from a demand before to a demand after (document 02, ticket 4)
 pub record Compared (n : ℕ) (d before after : Cells) (budget : ℕ) (out₀ work₀ : Cells) (r : Report) (out work : Cells) : Type 0 where
@@ -103,6 +107,7 @@ pub record Compared (n : ℕ) (d before after : Cells) (budget : ℕ) (out₀ wo
   pub rises : r .accepted ≡ true → Rises n before after (settled n (at n d) before budget) (settled n (at n d) after budget) out
   -- equal demands give 0 in every cell, also where the call is refused
   pub equal : Equal n before after → out ≡ replicate (length out₀) 0
+  pub enough : r .number ≡ 9 → budget < productionBudget
 
 -- The slices that a table file is read into, or written from: x, F, E, M, V, X, G and the rises
 pub record Slices : Type 0 where
@@ -186,3 +191,5 @@ pub record PagePrinted (file out₀ : Bytes) (r : Report) (out : Bytes) : Type 0
   pub outputs : out ≡ output r (length out₀) (pageBytes file)
   -- document 02, ticket 3: a file without kind 10 "keeps its results", by document 01's own reader and formulas
   pub unadjusted : WithoutKind10 file → pageBytes file ≡ padded pageLimit (unadjustedFilePage file)
+  -- document 02, ticket 5: the program's budget settles every production, so no page is `refused 9 0`, nor with another place
+  pub enough : (place : ℕ) → page file ≡ refusalLine 9 place → ⊥

@@ -6,12 +6,12 @@ use lib.ListN.{length}
 use Rattle.model.specs.Numbers.{Cells, at}
 use Rattle.model.specs.Table.{Table, finalDemand}
 use Rattle.model.specs.Rounds.{settled, inducedValueAdded, inducedImports}
-use Rattle.model.specs.Checks.{Report, accepts, refuses, roundsOf}
+use Rattle.model.specs.Checks.{Report, accepts, refuses, roundsOf, productionBudget}
 use Rattle.model.specs.Calls.{coefficientsReport, inputCoefficients, valueAddedCoefficients, importCoefficients, domesticCoefficients, domesticDemands, productionReport, inducedReport}
 
--- "works with budget 1,400"
+-- "works with budget 1,400", which settles every production
 abbrev pub pageBudget : ℕ
-pageBudget = 1400
+pageBudget = productionBudget
 
 -- the first report of a list that refuses gives its number and its place; where none refuses it is accepted, with these counts
 abbrev pub firstRefusal : List Report → (counts : List ℕ) → Report

@@ -15,7 +15,7 @@ use Rattle.model.specs.Figures.{figuresReport}
 use Rattle.model.specs.Page.{refusalLine, sheet, tableRead, tablePage, readingPage, page, pageLimit, pageReport}
 use Rattle.model.specs.declared.TableRead.{TableRead}
 use Rattle.theory_files.specs.Files.{inputLimit}
-use Rattle.theory_pages.proofs.Pages.{written, unwritten}
+use Rattle.theory_pages.proofs.Pages.{written, unwritten, never-nine}
 use Rattle.theory_pages.proofs.Unadjusted.{bytes-unadjusted}
 use Rattle.theory_files.proofs.RecordKinds.{place-back}
 use Rattle.theory_files.proofs.Readings.{Answered, reading-answered}
@@ -99,7 +99,7 @@ read-page s cells e h = ap (λ (r : TableRead). pageOf r cells) e ∙ answer-pag
 
 -- ---- the call, by the length of its buffer
 pub call-stop : (s l : List ℕ) {z : List ℕ} → (length l ≡ pageLimit → ⊥) → z ≡ replicate (length l) 0 → PagePrinted s l (refuses 1 2 0) z
-call-stop s l h e = record { answer = sym (unwritten (length l) s h); outputs = e; unadjusted = bytes-unadjusted s }
+call-stop s l h e = record { answer = sym (unwritten (length l) s h); outputs = e; unadjusted = bytes-unadjusted s; enough = never-nine s }
 
 pub call-on : (s l : List ℕ) {z m : List ℕ} {j : ℕ} → length l ≡ pageLimit → z ≡ replicate (length l) 0 → Put (page s) z m j → PagePrinted s l (accepts (j ∷ [])) m
 call-on s l {z} {m} {j} h e p =
@@ -108,4 +108,5 @@ call-on s l {z} {m} {j} h e p =
       answer = ap (λ (k : ℕ). accepts (k ∷ [])) (p .0) ∙ sym (w .0) ∙ ap (λ (k : ℕ). pageReport k s) (sym h);
       outputs = p .1 ∙ ap (λ (x : List ℕ). sets x 0 (page s)) (e ∙ ap (λ (k : ℕ). replicate k 0) h) ∙ sym (w .1);
       unadjusted = bytes-unadjusted s;
+      enough = never-nine s;
     }

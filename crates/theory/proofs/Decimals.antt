@@ -1,5 +1,5 @@
 -- The digits of an amount, and how many they are. Assumes nothing.
-use mathlib.Core.Bool.{Bool, true, false}
+use mathlib.Core.Bool.{Bool, true, false, cond}
 use mathlib.Core.Path.{_≡_, refl, ap, _∙_}
 use mathlib.Core.List.{List, [], _∷_, _++_, map}
 use Prim.Native.Nat.{ℕ, zero, suc, _+_, _*_, _/_, _%_, _^_, _≤_, _<_, suc-le-suc}
@@ -36,6 +36,18 @@ pub decimal-more : (n : ℕ) → 10 ≤ n → decimal n ≡ decimal (n / 10) ++ 
 unfolding digits
 decimal-more n h =
     rw (digits, le-ltb n 10 h) (ap (λ (l : List ℕ). l ++ ((48 + n % 10) ∷ [])) (spare n (suc (n / 10)) (n / 10) (omega arith) (omega arith)))
+
+-- the first digit of a number that has one or two, whatever follows
+pub first-digit : (n : ℕ) (more : List ℕ) → n < 100 → cell (decimal n ++ more) 0 ≡ cond (ltb n 10) (48 + n) (48 + n / 10)
+first-digit n more h = split (ltb n 10) refl
+  where
+    split : (t : Bool) → ltb n 10 ≡ t → cell (decimal n ++ more) 0 ≡ cond t (48 + n) (48 + n / 10)
+    split true e =
+        let low = ltb-true n 10 e in
+        ap (λ (l : List ℕ). cell (l ++ more) 0) (decimal-one n low) ∙ omega arith
+    split false e =
+        let high = ltb-false n 10 e in
+        ap (λ (l : List ℕ). cell (l ++ more) 0) (decimal-more n high ∙ ap (λ (l : List ℕ). l ++ ((48 + n % 10) ∷ [])) (decimal-one (n / 10) (omega arith))) ∙ omega arith
 
 length-more : (n : ℕ) → 10 ≤ n → length (decimal n) ≡ length (decimal (n / 10)) + 1
 length-more n h = ap length (decimal-more n h) ∙ length-append (decimal (n / 10)) ((48 + n % 10) ∷ [])

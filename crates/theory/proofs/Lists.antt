@@ -3,12 +3,12 @@ use mathlib.Core.Bool.{Bool, true, false, _&&_, false≢true}
 use mathlib.Core.List.{List, [], _∷_}
 use mathlib.Core.Path.{_≡_, refl, sym, ap, _∙_}
 use Prim.Native.Nat.{ℕ, zero, suc, _+_, _<_, _≤_, suc-le-suc, zero-le}
-use native.Mathlib.Nat.{not-suc-le-zero, le-of-suc-le-suc, zero-lt-suc, ne-of-lt, lt-of-lt-of-le, le-refl}
+use native.Mathlib.Nat.{not-suc-le-zero, le-of-suc-le-suc, zero-lt-suc, ne-of-lt, lt-of-lt-of-le, le-refl, le-step, lt-suc-self}
 use native.Mathlib.Decide.{decLt}
 use native.Mathlib.Numerals.{add-one}
 use native.Mathlib.Omega.{arith}
 use borrow.Author.Count.{below-more}
-use borrow.Author.Tests.{leb-true, eqb-true}
+use borrow.Author.Tests.{leb-true, eqb-true, eq-eqb}
 use lib.Dec.{eqb, leb}
 use lib.ListN.{length, getD, set, take, drop, replicate, length-set, length-replicate, getD-replicate, List·getD-eq-default}
 use lib.Seq.{ext-getD, getD-set-same, getD-set-other}
@@ -180,6 +180,10 @@ same-equal zero a b e = λ i h. absurd (not-suc-le-zero h)
 same-equal (suc n) a b e =
     let p = and-true (same n a b) (eqb (cell a n) (cell b n)) e in
     upto (same-equal n a b (p .0)) (eqb-true (cell a n) (cell b n) (p .1))
+
+pub equal-same : (n : ℕ) (a b : List ℕ) → Equal n a b → same n a b ≡ true
+equal-same zero a b p = refl
+equal-same (suc n) a b p = rw (equal-same n a b (λ i h. p i (le-step h)), eq-eqb (cell a n) (cell b n) (p n (lt-suc-self n)))
 
 -- one sector more, whose amount in a is v
 pub same-more : (i : ℕ) (a b : List ℕ) {t : Bool} {v : ℕ} → t ≡ same i a b → v ≡ cell a i → t && eqb v (cell b i) ≡ same (i + 1) a b

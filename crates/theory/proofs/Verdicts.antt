@@ -1,11 +1,12 @@
 -- What a list of checks says, check by check. Assumes nothing.
 use mathlib.Core.Path.{_≡_, refl, sym, _∙_, ap, ap₂}
-use mathlib.Core.Bool.{Bool, true, false, cond, false≢true}
-use mathlib.Core.List.{List, [], _∷_, _++_}
+use mathlib.Core.Bool.{Bool, true, false, not, _&&_, cond, false≢true, true≢false}
+use mathlib.Core.List.{List, [], _∷_, _++_, map, append-nil}
 use Prim.Native.Nat.{ℕ, _+_, _*_, _≤_, _<_, zero-le}
 use native.Mathlib.Nat.{le-refl, lt-of-lt-of-le, zero-add}
+use native.Mathlib.Omega.{arith}
 use native.Mathlib.Numerals.{add-one}
-use borrow.Author.Tests.{lt-ltb, le-ltb, ltb-true, ltb-false, le-leb, leb-true, eq-eqb}
+use borrow.Author.Tests.{lt-ltb, le-ltb, ltb-true, ltb-false, le-leb, leb-true, eq-eqb, ne-eqb}
 use lib.Dec.{ltb, eqb}
 use lib.ListN.{length, replicate}
 use Rattle.model.specs.Numbers.{sum, first, all, at, transposed}
@@ -133,10 +134,10 @@ pass-on [] qs ks p = refl
 pass-on (q ∷ ps) qs ks p =
     passed q (ps ++ qs) ks (q .places) (le-refl (q .places)) (p .0) ∙ pass-on ps qs ks (p .1)
 
--- a check that passes wherever those before it pass need not be asked
-pub passed-after : (ps : List Check) (q : Check) (qs : List Check) (ks : List ℕ) → (AllPass ps → Passes q) → verdict (ps ++ (q ∷ qs)) ks ≡ verdict (ps ++ qs) ks
-passed-after [] q qs ks h = passed q qs ks (q .places) (le-refl (q .places)) (h tt)
-passed-after (p ∷ ps) q qs ks h = asked-both _≡_ p (ps ++ (q ∷ qs)) (ps ++ qs) ks ks (λ _. refl) (λ a. passed-after ps q qs ks (λ b. h (a, b)))
+-- checks that pass wherever those before them pass need not be asked
+pub unasked : (ps rs qs : List Check) (ks : List ℕ) → (AllPass ps → AllPass rs) → verdict (ps ++ (rs ++ qs)) ks ≡ verdict (ps ++ qs) ks
+unasked [] rs qs ks h = pass-on rs qs ks (h tt)
+unasked (p ∷ ps) rs qs ks h = asked-both _≡_ p (ps ++ (rs ++ qs)) (ps ++ qs) ks ks (λ _. refl) (λ a. unasked ps rs qs ks (λ b. h (a, b)))
 
 -- and where all pass the call is accepted
 pub all-accepted : (qs : List Check) (ks : List ℕ) → AllPass qs → verdict qs ks ≡ accepts ks
@@ -154,6 +155,35 @@ refuse-on [] qs js ks a p e = absurd (false≢true (sym (ap (λ (r : Report). r 
 refuse-on (q ∷ ps) qs js ks a p e =
     asked-both (λ r s. r ≡ refuses (length js) a p → s ≡ refuses (length ks) a p) q ps (ps ++ qs) js ks
     (λ _ e. ap₂ (refuses (length ks)) (ap (λ (r : Report). r .number) e) (ap (λ (r : Report). r .place) e)) (λ _. refuse-on ps qs js ks a p) e
+
+-- ---- numbers
+-- every check of a list has a number that passes a test
+abbrev pub numbersPass : (ℕ → Bool) → List Check → Bool
+numbersPass t [] = true
+numbersPass t (q ∷ qs) = t (q .number) && numbersPass t qs
+
+-- so does the number of its answer, if 0 does
+pub number-passes : (t : ℕ → Bool) (qs : List Check) (ks : List ℕ) → numbersPass t qs ≡ true → t 0 ≡ true → t (verdict qs ks .number) ≡ true
+number-passes t [] ks e z = z
+number-passes t (q ∷ qs) ks e z =
+    let p = and-true (t (q .number)) (numbersPass t qs) e in
+    asked (λ r. t (r .number) ≡ true) q qs ks (λ _. p .0) (λ _. number-passes t qs ks (p .1) z)
+
+-- slices that are counted on, before checks whose numbers pass
+pub counted-pass : (t : ℕ → Bool) (place limit : ℕ) (ss : List (List ℕ)) (qs rs : List Check) → t 3 ≡ true → numbersPass t (qs ++ rs) ≡ true
+    → numbersPass t (countedOn place (map (bounded 3 0 limit) ss) ++ qs ++ rs) ≡ true
+counted-pass t place limit [] qs rs three e = e
+counted-pass t place limit (s ∷ ss) qs rs three e = rw three (counted-pass t (place + length s) limit ss qs rs three e)
+
+-- a number that none of the first checks has comes only if a later one can fail
+pub not-told : (k : ℕ) (ps qs : List Check) (ks : List ℕ) → numbersPass (λ q. not (eqb q k)) ps ≡ true → 1 ≤ k → (AllPass ps → AllPass qs)
+    → verdict (ps ++ qs) ks .number ≡ k → ⊥
+not-told k ps qs ks e some h z =
+    let n = verdict ps ks .number in
+    let same : verdict (ps ++ qs) ks ≡ verdict ps ks =
+    ap (λ (l : List Check). verdict (ps ++ l) ks) (sym (append-nil qs)) ∙ unasked ps qs [] ks h ∙ ap (λ (l : List Check). verdict l ks) (append-nil ps) in
+    let other = number-passes (λ q. not (eqb q k)) ps ks e (ap not (ne-eqb 0 k (λ z. omega arith))) in
+    true≢false (sym other ∙ ap not (eq-eqb n k (sym (ap (λ (r : Report). r .number) same) ∙ z)))
 
 -- a call that has asked some checks and was answered a: where they refuse it is done, where they accept it goes on with the others
 module _ (ps : List Check) {a : Answer} (said : report a ≡ verdict ps []) where

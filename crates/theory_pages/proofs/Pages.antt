@@ -1,35 +1,37 @@
--- No page is longer than 2,851 bytes, whatever the input. Assumes nothing.
-use mathlib.Core.Bool.{Bool, true, false, cond}
+-- No page is longer than 2,851 bytes, and none is a refusal with 9, whatever the input. Assumes nothing.
+use mathlib.Core.Bool.{Bool, true, false, not, _&&_, cond}
 use mathlib.Core.List.{List, [], _∷_, _++_, map, append-assoc}
 use mathlib.Core.Path.{_≡_, refl, sym, ap, _∙_}
-use Prim.Native.Nat.{ℕ, zero, suc, _+_, _*_, _^_, _≤_, _<_, suc-le-suc}
-use native.Mathlib.Nat.{zero-lt-suc, not-suc-le-zero, le-step, lt-suc-self, mul-le-mul}
+use Prim.Native.Nat.{ℕ, zero, suc, _+_, _*_, _/_, _^_, _≤_, _<_, suc-le-suc}
+use native.Mathlib.Nat.{le-refl, zero-lt-suc, not-suc-le-zero, le-step, lt-suc-self, mul-le-mul}
 use native.Mathlib.Omega.{arith}
-use borrow.Author.Tests.{leb-true, ne-eqb}
-use lib.Dec.{lit≤, lit<}
+use borrow.Author.Tests.{ltb-true, lt-ltb, eqb-false, ne-eqb, not-true}
+use lib.Dec.{eqb, ltb, lit≤, lit<}
 use lib.ListN.{length, replicate, length-append}
 use lib.Seq.{sets}
 use Rattle.model.specs.Numbers.{cell, at}
 use Rattle.model.specs.Table.{Table, finalDemand, portion, sectorLimit}
 use Rattle.model.specs.Rounds.{settling, intermediate, inducedValueAdded, inducedImports}
-use Rattle.model.specs.Checks.{Report, accepts, roundsOf, Check, verdict, refuses, size, lengths, bounded, countedOn, amountLimit, balanceChecks, columnSums, single, settles, demandLimit}
-use Rattle.model.specs.Calls.{coefficientsReport, inputCoefficients, valueAddedCoefficients, importCoefficients, domesticCoefficients, domesticDemands, productionReport, inducedReport}
+use Rattle.model.specs.Checks.{Report, accepts, roundsOf, Check, verdict, refuses, size, lengths, bounded, countedOn, amountLimit, balanceChecks, columnSums}
+use Rattle.model.specs.Calls.{tableChecks, coefficientsReport, inputCoefficients, valueAddedCoefficients, importCoefficients, domesticCoefficients, domesticDemands, productionReport, inducedReport}
 use Rattle.model.specs.File.{Reading, reading}
-use Rattle.model.specs.Text.{decimal, line}
-use Rattle.model.specs.Figures.{pageBudget, firstRefusal, figuresProduction, figuresValue, figuresImports}
+use Rattle.model.specs.Text.{digits, decimal, line}
+use Rattle.model.specs.Figures.{pageBudget, figuresReport, figuresProduction, figuresValue, figuresImports}
 use Rattle.model.specs.Page.{headings, refusalLine, orRefusal, sectorLine, linesTo, roundsLine, sheet, tablePage, tableRead, readingPage, page, pageLimit, pageBytes, pageReport}
 use Rattle.theory_files.specs.Files.{inputLimit}
 use Rattle.theory.specs.Slices.{Columns}
 use Rattle.theory.proofs.Sums.{upto, sum-cell, cell-in}
-use Rattle.theory.proofs.Lists.{cell-tabulate}
+use Rattle.theory.proofs.Lists.{cell-tabulate, and-true}
 use Rattle.theory.proofs.Shares.{portion-le}
 use Rattle.theory_rounds.proofs.Rounds.{weighted-shares, intermediate-within}
-use Rattle.theory.proofs.Verdicts.{Passes, asked, single-passed, single-failed}
-use Rattle.theory_rounds.proofs.Answers.{InducedGiven, accepted-induced, accepted-settled}
+use Rattle.theory.proofs.Verdicts.{Passes, asked, single-failed, number-passes, counted-pass}
+use Rattle.theory_rounds.proofs.Answers.{InducedGiven, accepted-induced}
+use Rattle.theory_budgets.proofs.Budgets.{production-settles}
 use Rattle.theory_tables.proofs.Tables.{table-sizes}
-use Rattle.theory_tables.proofs.Prepared.{production-ready, induced-ready}
-use Rattle.theory.proofs.Decimals.{decimal-fits, line-fits}
+use Rattle.theory_tables.proofs.Prepared.{demands-small, table-accepted, matrix-is-accepted, production-ready, induced-ready}
+use Rattle.theory.proofs.Decimals.{first-digit, decimal-fits, line-fits}
 use Rattle.theory.proofs.Stores.{over-zeros}
+use Rattle.theory_files.proofs.Walks.{reading-holds}
 use Rattle.theory_files.proofs.Readings.{Answered, reading-answered}
 
 -- ---- a refusal: its number and its place have five digits at most
@@ -69,6 +71,28 @@ slices-near n place limit (s ∷ ss) qs k c few more =
     let long : length s ≡ n = c 0 (zero-lt-suc (length ss)) in
     check-near (bounded 3 place limit s) (countedOn (place + length s) (map (bounded 3 0 limit) ss) ++ qs) k (omega arith) (λ _.
     slices-near n (place + length s) limit ss qs k (λ i h. c (suc i) (suc-le-suc h)) (omega arith) more)
+
+-- ---- the number that a refusal shows: one of the questions but 9
+abbrev other : ℕ → Bool
+other number = not (eqb number 9) && ltb number 90
+
+-- its line then has another first digit than that of 9
+refusal-nine : (number place p : ℕ) → other number ≡ true → refusalLine number place ≡ refusalLine 9 p → ⊥
+unfolding refusalLine digits
+refusal-nine number place p e z =
+    let t = and-true (not (eqb number 9)) (ltb number 90) e in
+    let nine = eqb-false number 9 (not-true (eqb number 9) (t .0)) in
+    let low = ltb-true number 90 (t .1) in
+    split nine low (ltb number 10) refl (sym (first-digit number (32 ∷ decimal place ++ (10 ∷ [])) (omega arith)) ∙ ap (λ (l : List ℕ). cell l 8) z)
+  where
+    split : (number ≡ 9 → ⊥) → number < 90 → (b : Bool) → ltb number 10 ≡ b → cond b (48 + number) (48 + number / 10) ≡ 57 → ⊥
+    split nine low true e z = nine (omega arith)
+    split nine low false e z = omega arith
+
+-- and a sheet begins with another letter
+sheet-nine : (n : ℕ) (f y v m : List ℕ) (k place : ℕ) → sheet n f y v m k ≡ refusalLine 9 place → ⊥
+unfolding sheet refusalLine
+sheet-nine n f y v m k place z = let e : 115 ≡ 114 = ap (λ (l : List ℕ). cell l 0) z in omega arith
 
 -- ---- the sheet: 39 bytes, n lines of at most 70, and 12
 lines-fit : (n : ℕ) (w : ℕ → List ℕ) (most : ℕ) → ((i : ℕ) → i < n → length (w i) ≤ most) → length (linesTo n w) ≤ n * most
@@ -183,56 +207,62 @@ module _ (t : Table) (some-columns : 1 ≤ length (t .columns)) (few-columns : l
       (omega (arith, square, z .flows, mul-le-mul few-columns (z .few)))
       (verdict-near (balanceChecks t ++ seventh) [] (omega (arith, z .few)))))))
 
-  -- the sheet of a production that is accepted for induced amounts
-  figures-fit : (k : ℕ) → inducing ≡ accepts [] → ((i : ℕ) → i < n → cell f i ≤ demandLimit) → k ≤ pageBudget → length (pageBy (accepts (k ∷ []))) ≤ pageLimit
-  figures-fit k ok small few =
+  -- where the sheets are accepted so are the other two calls: the figures have the count of rounds
+  abbrev k : ℕ
+  k = settling n (at n d) f pageBudget
+
+  produces : sheets .accepted ≡ true → settlingOf ≡ accepts (k ∷ [])
+  produces ok = production-ready t squares columns ok pageBudget (le-refl pageBudget)
+
+  induces : sheets .accepted ≡ true → inducing ≡ accepts []
+  induces ok = induced-ready t squares columns ok some-columns pageBudget (ap (λ (r : Report). r .accepted) (produces ok))
+
+  figures-on : sheets .accepted ≡ true → figuresReport t ≡ accepts (k ∷ [])
+  unfolding figuresReport
+  figures-on ok = rw (ok, produces ok, induces ok) refl
+
+  figures-stop : sheets .accepted ≡ false → figuresReport t ≡ refuses 1 (sheets .number) (sheets .place)
+  unfolding figuresReport
+  figures-stop no = rw no refl
+
+  figures-fit : sheets .accepted ≡ true → length (pageBy (accepts (k ∷ []))) ≤ pageLimit
+  figures-fit ok =
       let a = inputCoefficients t in
       let m = importCoefficients t in
       let v = valueAddedCoefficients t in
       let F = finalDemand t in
-      let g = accepted-induced n a m v F y (n ∷ n ∷ []) (ap (λ (r : Report). r .accepted) ok) in
+      let g = accepted-induced n a m v F y (n ∷ n ∷ []) (ap (λ (r : Report). r .accepted) (induces ok)) in
+      let small = demands-small t squares columns (table-accepted t squares columns ok) in
       sheet-fits n f y (figuresValue t) (figuresImports t) k (g .sizes .few)
       (λ i h. omega (arith, small i h))
       (production-printable n a m v F y (n ∷ n ∷ []) g)
       (value-printable n a m v F y (n ∷ n ∷ []) g)
       (imports-printable n a m v F y (n ∷ n ∷ []) g)
-      few
-
-  -- an accepted table: question 9 alone decides, and where it passes the third call accepts
-  settling-fits : sheets .accepted ≡ true → length (pageBy (firstRefusal (settlingOf ∷ inducing ∷ []) (roundsOf settlingOf ∷ []))) ≤ pageLimit
-  unfolding productionReport
-  settling-fits ok = split (settles n (at n d) f pageBudget) refl
-    where
-      k : ℕ
-      k = settling n (at n d) f pageBudget
-
-      asked : settlingOf ≡ verdict (single 9 (settles n (at n d) f pageBudget) ∷ []) (k ∷ [])
-      asked = production-ready t squares columns ok pageBudget
-
-      split : (b : Bool) → settles n (at n d) f pageBudget ≡ b → length (pageBy (firstRefusal (settlingOf ∷ inducing ∷ []) (roundsOf settlingOf ∷ []))) ≤ pageLimit
-      split true e =
-          let said : settlingOf ≡ accepts (k ∷ []) = asked ∙ single-passed 9 [] (k ∷ []) e in
-          let accepted = ap (λ (r : Report). r .accepted) said in
-          let induced : inducing ≡ accepts [] = induced-ready t squares columns ok some-columns pageBudget accepted in
-          let both : firstRefusal (settlingOf ∷ inducing ∷ []) (roundsOf settlingOf ∷ []) ≡ accepts (k ∷ []) = rw (said, induced) refl in
-          rw both (figures-fit k induced (accepted-settled n d (at n d) demandLimit f pageBudget (n ∷ n ∷ []) accepted .0 .small) (leb-true k pageBudget e))
-      split false e =
-          let said : settlingOf ≡ refuses 1 9 0 = asked ∙ single-failed 9 [] (k ∷ []) e in
-          let stopped : firstRefusal (settlingOf ∷ inducing ∷ []) (roundsOf settlingOf ∷ []) ≡ refuses 1 9 0 = rw said refl in
-          rw stopped (refusal-fits 9 0 (lit< tt))
+      (production-settles (matrix-is-accepted t squares columns ok) f small pageBudget (le-refl pageBudget))
 
   pub table-fits : length (tablePage t) ≤ pageLimit
   unfolding tablePage
   table-fits = split (sheets .accepted) refl
     where
-      stopped : Report
-      stopped = refuses 1 (sheets .number) (sheets .place)
+      split : (b : Bool) → sheets .accepted ≡ b → length (pageBy (figuresReport t)) ≤ pageLimit
+      split true e = rw (figures-on e) (figures-fit e)
+      split false e = rw (figures-stop e) (refusal-fits (sheets .number) (sheets .place) table-near)
 
-      split : (b : Bool) → sheets .accepted ≡ b → length (pageBy (cond (sheets .accepted) (firstRefusal (settlingOf ∷ inducing ∷ []) (roundsOf settlingOf ∷ [])) stopped)) ≤ pageLimit
-      split true e = rw e (settling-fits e)
-      split false e =
-          let same : cond (sheets .accepted) (firstRefusal (settlingOf ∷ inducing ∷ []) (roundsOf settlingOf ∷ [])) stopped ≡ stopped = rw e refl in
-          rw same (refusal-fits (sheets .number) (sheets .place) table-near)
+  -- the sheets are never refused with 9, and a sheet does not begin as a refusal does
+  sheets-number : other (sheets .number) ≡ true
+  unfolding coefficientsReport
+  sheets-number =
+      let seventh = columnSums n (at n d) ∷ [] in
+      number-passes other (tableChecks t squares columns ++ seventh) []
+      (counted-pass other 0 amountLimit (t .flows ∷ t .columns) (balanceChecks t) seventh refl refl) refl
+
+  pub table-nine : (place : ℕ) → tablePage t ≡ refusalLine 9 place → ⊥
+  unfolding tablePage
+  table-nine place = split (sheets .accepted) refl
+    where
+      split : (b : Bool) → sheets .accepted ≡ b → pageBy (figuresReport t) ≡ refusalLine 9 place → ⊥
+      split true e z = sheet-nine n f y (figuresValue t) (figuresImports t) k place (ap pageBy (sym (figures-on e)) ∙ z)
+      split false e z = refusal-nine (sheets .number) (sheets .place) place sheets-number (ap pageBy (sym (figures-stop e)) ∙ z)
 
 -- ---- the page of a file: its own refusals have a number up to 15, and a place up to 12,889
 reading-fits : (r : Reading) → Answered inputLimit r → length (readingPage r) ≤ pageLimit
@@ -243,6 +273,15 @@ reading-fits (Reading.table n es) p = table-fits (tableRead n es) (lit≤ tt) (l
 pub page-fits : (s : List ℕ) → length (page s) ≤ pageLimit
 unfolding page
 page-fits s = reading-fits (reading s) (reading-answered s)
+
+-- Theorem, for the reader: document 02, ticket 5, over every file's bytes. The program's budget settles every production, so no page is `refused 9 0`,
+-- nor with another place
+pub never-nine : (s : List ℕ) (place : ℕ) → page s ≡ refusalLine 9 place → ⊥
+unfolding page
+never-nine s place =
+    reading-holds s (λ o. readingPage o ≡ refusalLine 9 place → ⊥)
+    (λ number p low high _. refusal-nine number p place (rw (ne-eqb number 9 (λ e. omega arith)) (lt-ltb number 90 (omega arith))))
+    (λ _ _. Unit {0}) (λ es _ _ _. table-nine (tableRead (cell s 1) es) (lit≤ tt) (lit≤ tt) place) (λ _ _ _ _. tt) (λ _. tt)
 
 -- ---- the call: a buffer of the exact length, and one of another
 pub written : (s : List ℕ) → (pageReport pageLimit s ≡ accepts (length (page s) ∷ [])) × (pageBytes s ≡ sets (replicate pageLimit 0) 0 (page s))

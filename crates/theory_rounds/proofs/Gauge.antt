@@ -3,12 +3,12 @@
 use mathlib.Core.Path.{_≡_, _∙_}
 use Prim.Native.Nat.{ℕ, _+_, _*_, _≤_, _<_}
 use native.Mathlib.Omega.{arith}
-use native.Mathlib.Nat.{le-trans, le-of-eq, add-le-add, mul-le-mul-left, mul-comm}
+use native.Mathlib.Nat.{le-refl, le-trans, le-of-eq, add-le-add, mul-le-mul-left, mul-comm}
 use Rattle.model.specs.Numbers.{largest, one, sum, transposed}
 use Rattle.model.specs.Rounds.{product, weighted}
 use Rattle.model.specs.Checks.{columnLimit}
 use Rattle.model.specs.Promises.{LowColumns}
-use Rattle.theory.proofs.Sums.{sum-mono, sum-cong, sum-add, sum-const, sum-scale, sum-cell, sum-swap, largest-le, largest-cell, largest-scale}
+use Rattle.theory.proofs.Sums.{sum-mono, sum-cong, sum-add, sum-const, sum-most, sum-scale, sum-cell, sum-swap, largest-le, largest-cell, largest-scale}
 
 -- N measures amounts over n sectors; u is what it gives for 1 in every sector
 pub record Gauge (n : ℕ) (c : ℕ → ℕ → ℕ) (N : (ℕ → ℕ) → ℕ) (u : ℕ) : Type 0 where
@@ -17,6 +17,7 @@ pub record Gauge (n : ℕ) (c : ℕ → ℕ → ℕ) (N : (ℕ → ℕ) → ℕ)
   pub scale : (f : ℕ → ℕ) → N (λ i. one * f i) ≡ one * N f
   pub flat : (a : ℕ) → N (λ i. a) ≤ u * a
   pub cells : (f : ℕ → ℕ) (i : ℕ) → i < n → f i ≤ N f
+  pub total : (f : ℕ → ℕ) → u * sum n f ≤ n * N f
   pub shrinks : (f : ℕ → ℕ) → N (weighted n c f) ≤ columnLimit * N f
 
 module _ (n : ℕ) (c : ℕ → ℕ → ℕ) (low : LowColumns n c) where
@@ -39,6 +40,7 @@ module _ (n : ℕ) (c : ℕ → ℕ → ℕ) (low : LowColumns n c) where
         scale = sum-scale n one;
         flat = λ a. le-of-eq (sum-const n a);
         cells = sum-cell n;
+        total = λ f. le-refl (n * sum n f);
         shrinks = columns-weighted;
       }
 
@@ -57,6 +59,7 @@ module _ (n : ℕ) (c : ℕ → ℕ → ℕ) (low : LowColumns n c) where
         scale = largest-scale n;
         flat = λ a. largest-le n (λ i h. omega arith);
         cells = largest-cell n;
+        total = λ f. omega (arith, sum-most n (largest n f) (largest-cell n f));
         shrinks = λ f. largest-le n (rows-weighted f);
       }
 

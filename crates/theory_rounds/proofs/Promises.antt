@@ -82,40 +82,6 @@ module _ {n : ℕ} {d : List ℕ} (A : AcceptedMatrix n d) where
   implied-fits y h i l =
       omega (arith, sum-cell n (weighted n (at n d) (cell y)) i l, total-gauge n (at n d) (A .low) .shrinks (cell y))
 
--- ---- at the calls: a call that answers and leaves what the definitions say keeps every promise
-pub produced : (n : ℕ) (d f : List ℕ) (budget : ℕ) (out₀ work₀ : List ℕ) {r : Report} {out work : List ℕ}
-    → r ≡ productionReport n d f budget (length out₀ ∷ length work₀ ∷ []) → out ≡ output r (length out₀) (settled n (at n d) f budget)
-    → work ≡ replicate (length work₀) 0 → Produced n d f budget out₀ work₀ r out work
-unfolding productionReport
-produced n d f budget out₀ work₀ {r} {out} e o z =
-    record {
-      answer = e;
-      outputs = o;
-      cleared = z;
-      settles = λ a. kept a .1;
-      distinct = λ a. distinguishes (kept a .0 .matrix) (kept a .1);
-      accurate = λ a. accurate (kept a .0 .matrix) (kept a .1);
-    }
-  where
-    lent : List ℕ
-    lent = length out₀ ∷ length work₀ ∷ []
-
-    kept : r .accepted ≡ true → Started n d demandLimit f lent × Settles n (at n d) f (roundsOf r) out
-    kept a = call-settles n d (at n d) demandLimit f budget lent (length out₀) e o a
-
-pub priced : (n : ℕ) (d w : List ℕ) (budget : ℕ) (out₀ work₀ : List ℕ) {r : Report} {out work : List ℕ}
-    → r ≡ priceReport n d w budget (length out₀ ∷ length work₀ ∷ []) → out ≡ output r (length out₀) (settled n (transposed (at n d)) w budget)
-    → work ≡ replicate (length work₀) 0 → Priced n d w budget out₀ work₀ r out work
-unfolding priceReport
-priced n d w budget out₀ work₀ {r} {out} e o z =
-    record { answer = e; outputs = o; cleared = z; settles = λ a. kept a .1; accurate = λ a. accurate-prices (kept a .0 .matrix) (kept a .1) }
-  where
-    lent : List ℕ
-    lent = length out₀ ∷ length work₀ ∷ []
-
-    kept : r .accepted ≡ true → Started n d riseLimit w lent × Settles n (transposed (at n d)) w (roundsOf r) out
-    kept a = call-settles n d (transposed (at n d)) riseLimit w budget lent (length out₀) e o a
-
 -- Demand 2: a demand behind a production is that of every start that settles there
 pub returns : (n : ℕ) (d y : List ℕ) → Returns n d y (impliedDemand n (at n d) y)
 returns n d y g k e σ = forward-back n (at n d) e σ

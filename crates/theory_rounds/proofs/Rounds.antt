@@ -2,15 +2,16 @@
 -- coefficient function, so for both directions of a matrix. Assumes nothing.
 use mathlib.Core.Path.{_≡_, sym, _∙_, ap, subst⁻¹}
 use mathlib.Core.Logic.{_↔_}
-use mathlib.Core.Bool.{false, true≢false}
+use mathlib.Core.Bool.{Bool, true, false, cond, true≢false}
 use mathlib.Core.List.{List}
-use Prim.Native.Nat.{ℕ, zero, suc, _+_, _*_, _-_, _/_, _≤_, _<_}
+use Prim.Native.Nat.{ℕ, zero, suc, _+_, _*_, _-_, _/_, _≤_, _<_, zero-le}
 use native.Mathlib.Omega.{arith}
 use native.Mathlib.Nat.{le-refl, le-trans, le-of-eq, le-antisymm, mul-le-mul-left, mul-le-mul-right, mul-comm, mul-left-comm, le-div-iff-mul-le, mul-div-le, mul-add, sub-add-cancel}
 use borrow.Author.Tests.{not-false}
+use lib.Dec.{eqb}
 use lib.ListN.{length}
 use Rattle.model.specs.Numbers.{one, sum, cell, same}
-use Rattle.model.specs.Rounds.{product, weighted, intermediate, round, rounds, changes, Settles, ExactBalance, impliedDemand}
+use Rattle.model.specs.Rounds.{product, weighted, intermediate, round, rounds, changes, Settles, ExactBalance, impliedDemand, unit}
 use Rattle.model.specs.Promises.{Equal}
 use Rattle.theory.proofs.Sums.{sum-mono, sum-cong, sum-add, sum-scale}
 use Rattle.theory.proofs.Lists.{length-tabulate, cell-tabulate, agreed, same-equal}
@@ -177,3 +178,16 @@ module _ (n : ℕ) (c : ℕ → ℕ → ℕ) where
   forward-back {s} {y} e σ =
       agreed n n (impliedDemand n c y) s (length-implied y) e (le-refl n)
       (λ i h. implied-cell y i h ∙ omega (arith, settles-fixed σ i h))
+
+-- ---- the start of an inverse column
+module _ (n j : ℕ) where
+  pub unit-cell : (i : ℕ) → i < n → cell (unit n j) i ≡ cond (eqb i j) one 0
+  unfolding unit
+  unit-cell i h = cell-tabulate n (λ i. cond (eqb i j) one 0) i h
+
+  pub unit-small : (i : ℕ) → i < n → cell (unit n j) i ≤ one
+  unit-small i h = subst⁻¹ (λ (a : ℕ). a ≤ one) (unit-cell i h) (within (eqb i j))
+    where
+      within : (b : Bool) → cond b one 0 ≤ one
+      within true = le-refl one
+      within false = zero-le

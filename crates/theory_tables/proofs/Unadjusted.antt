@@ -17,7 +17,7 @@ use Rattle.model.specs.Page.{pageFrom, tablePage}
 use Rattle.model.specs.Unadjusted.{unadjustedRows, unadjustedReport, unadjustedDemands, unadjustedPage}
 use Rattle.model.specs.Contracts.{Derived}
 use Rattle.theory.proofs.Lists.{tabulate-cong, cell-zeros}
-use Rattle.theory.proofs.Verdicts.{AllPass, passed-after, output-given}
+use Rattle.theory.proofs.Verdicts.{AllPass, unasked, output-given}
 use Rattle.theory_tables.proofs.Tables.{bounded-cell}
 use Rattle.theory_tables.proofs.Prepared.{table-accepted, demands-small}
 
@@ -66,8 +66,7 @@ module _ (n : ℕ) (x finalDemand exports imports valueAdded production : List �
     unfolding coefficientsReport unadjustedReport domesticCoefficients domesticCoefficient inputCoefficient importCoefficient
     unadjusted-report =
         rw (eq-eqb n (length zeros) (sym (length-replicate n 0)))
-        (passed-after before amounts (exportsWithin adjusted ∷ after (rowBalances adjusted)) [] (λ _. zeros-pass)
-        ∙ passed-after before (exportsWithin adjusted) (after (rowBalances adjusted)) [] exports-pass
+        (unasked before (amounts ∷ exportsWithin adjusted ∷ []) (after (rowBalances adjusted)) [] (λ p. (zeros-pass, (exports-pass p, tt)))
         ∙ ap (λ (q : Check). verdict (before ++ after q) []) rows-same)
 
   -- Theorem, for the reader: the page, by document 01

@@ -2,15 +2,16 @@
 use mathlib.Core.Bool.{Bool, true, false}
 use mathlib.Core.List.{List, [], _∷_}
 use mathlib.Core.Path.{_≡_, sym, ap, _∙_}
-use Prim.Native.Nat.{ℕ, _*_}
+use Prim.Native.Nat.{ℕ, _*_, _<_}
 use borrow.Author.Needs.{needs}
 use lib.ListN.{length}
 use Rattle.model.specs.Numbers.{at, oriented, transposed}
 use Rattle.model.specs.Rounds.{dispersion, inverse}
-use Rattle.model.specs.Checks.{Report, reportRounds, output}
+use Rattle.model.specs.Checks.{Report, reportRounds, output, priceBudget}
 use Rattle.model.specs.declared.Outcome.{Outcome}
 use Rattle.inverse_ratios.specs.Columns.{Dispersed}
 use Rattle.theory.proofs.Verdicts.{output-given}
+use Rattle.theory_budgets.proofs.Calls.{inverse-nine}
 use Rattle.inverse_columns.proofs.Leontief.{accepted-inverse}
 use Rattle.inverse.proofs.Ready.{inverse-ready}
 use Rattle.inverse.proofs.inverse.Statement.{statement}
@@ -51,6 +52,13 @@ ready p =
     let r = accepted-inverse (a .n) (a .d .now) (a .budget) (length (a .sheet .now) ∷ []) (lp ∷ ls ∷ []) said in
     (inverse-ready (r .0) (a .budget) (made p), r .1 .0, r .1 .1 .0)
 
+-- number 9 comes from lower budgets alone
+never : (q : tie.After-fill-inverse) → reportRounds (q .fill-inverse .result) .number ≡ 9 → entry q .args .budget < priceBudget
+never q z =
+    let a = entry q .args in
+    inverse-nine (a .n) (a .d .now) (a .budget) (length (a .sheet .now) ∷ []) (length (a .power .now) ∷ length (a .sensitivity .now) ∷ [])
+    (ap (λ (r : Report). r .number) (sym (q .fill-inverse .ensures .0)) ∙ z)
+
 fill-dispersion-requires : tie.Need-fill-dispersion-requires
 fill-dispersion-requires c κs =
     let r = ready (c .before .before) in
@@ -73,6 +81,7 @@ returns c =
           ∙ ap (λ (o : Outcome). output (reportRounds o) (length (a .sheet .now)) (inverse (a .n) (a .d .now) (a .budget))) e;
       powers = c .before .before .before .before .before .before .fill-zero .ensures;
       sensitivities = c .before .before .fill-zero2 .ensures;
+      enough = λ z. never q (ap (λ (o : Outcome). reportRounds o .number) e ∙ z);
     }
 
 returns-2 : tie.Need-returns-2
@@ -86,6 +95,7 @@ returns-2 c =
       sheets = q .fill-inverse .ensures .1;
       powers = rw (accepted p) (r .fill-dispersion .ensures ∙ ap (λ (s : List ℕ). dispersion n (at n s)) (made p));
       sensitivities = rw (accepted p) (c .before .before .fill-dispersion2 .ensures ∙ ap (λ (s : List ℕ). dispersion n (transposed (at n s))) (made p));
+      enough = never q;
     }
 
 pub inverse-spec : {M : Type 1} → statement M

@@ -13,7 +13,8 @@ use Rattle.model.specs.Rounds.{settled, unit}
 use Rattle.model.specs.Checks.{demandLimit, reportRounds, output}
 use Rattle.theory_rounds.specs.Search.{nine}
 use Rattle.theory_rounds.proofs.Alike.{rows-settleable}
-use Rattle.inverse_columns.proofs.Leontief.{unit-made, unit-small}
+use Rattle.inverse_columns.proofs.Leontief.{unit-made}
+use Rattle.theory_rounds.proofs.Rounds.{unit-small}
 use Rattle.inverse_columns.proofs.one_column.Statement.{statement}
 use Rattle.inverse_columns.proofs.one_column.Tie as tie
 

@@ -9,7 +9,7 @@ use Rattle.model.specs.Numbers.{at, transposed}
 use Rattle.model.specs.Checks.{Report, riseLimit}
 use Rattle.model.specs.Calls.{priceReport}
 use Rattle.model.specs.Contracts.{Priced}
-use Rattle.theory_rounds.proofs.Promises.{priced}
+use Rattle.theory_budgets.proofs.Calls.{priced}
 use Rattle.production.proofs.Solving.{Called, called-stop, passed, called-on}
 use Rattle.production.proofs.price.Statement.{statement}
 use Rattle.production.proofs.price.Tie as tie

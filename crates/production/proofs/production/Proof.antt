@@ -8,7 +8,7 @@ use Rattle.model.specs.Checks.{Report, demandLimit}
 use Rattle.model.specs.Calls.{productionReport}
 use Rattle.model.specs.Contracts.{Produced}
 use Rattle.theory_rounds.proofs.Alike.{rows-settleable}
-use Rattle.theory_rounds.proofs.Promises.{produced}
+use Rattle.theory_budgets.proofs.Calls.{produced}
 use Rattle.production.proofs.Solving.{Called, called-stop, passed, called-on}
 use Rattle.production.proofs.production.Statement.{statement}
 use Rattle.production.proofs.production.Tie as tie
