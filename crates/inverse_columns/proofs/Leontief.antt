@@ -1,8 +1,8 @@
 -- The Leontief inverse, written column by column. Assumes nothing.
 use mathlib.Core.Bool.{Bool, true, false, cond}
 use mathlib.Core.List.{List, [], _∷_, _++_}
-use mathlib.Core.Path.{_≡_, refl, sym, ap, subst⁻¹, _∙_}
-use Prim.Native.Nat.{ℕ, _+_, _*_, _≤_, _<_, zero-le, max}
+use mathlib.Core.Path.{_≡_, refl, sym, ap, _∙_}
+use Prim.Native.Nat.{ℕ, _+_, _*_, _≤_, _<_, max}
 use native.Mathlib.Nat.{le-refl, le-antisymm, lt-of-lt-of-le}
 use native.Mathlib.Numerals.{add-one}
 use native.Mathlib.Omega.{arith}
@@ -21,7 +21,7 @@ use Rattle.model.specs.declared.Outcome.{Outcome}
 use Rattle.model.specs.declared.Outcome.the-variants.{Settled, Refused}
 use Rattle.theory.specs.Slices.{Each}
 use Rattle.inverse_columns.specs.Filling.{ColumnFilled}
-use Rattle.theory.proofs.Lists.{All, all-none, all-more, length-tabulate, cell-tabulate, tabulated}
+use Rattle.theory.proofs.Lists.{All, all-none, all-more, length-tabulate, tabulated}
 use Rattle.theory.proofs.Matrices.{matrix-cell, matrix-made}
 use Rattle.theory.proofs.Verdicts.{passed, failed-each, single-accepted, single-refused, accepted-all, all-pass-parts, accepted-matrix}
 

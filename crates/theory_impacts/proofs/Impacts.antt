@@ -144,9 +144,10 @@ module _ (n : ℕ) (d before after lent : List ℕ) where
         lt-of-not-le (λ h.
         not-told 9 (matrixChecks n d [] (length before ∷ length after ∷ lent) ++ demandChecks n before after) (bothSettle n (at n d) before after budget) larger refl (lit≤ tt)
         (λ p.
-        let s = both-started p in
-        (λ _ _. le-leb _ budget (production-settles (s .first .matrix) before (s .first .small) budget h),
-        (λ _ _. le-leb _ budget (production-settles (s .second .matrix) after (s .second .small) budget h), tt))) z)
+        let s = both-started p in (
+          λ _ _. le-leb _ budget (production-settles (s .first .matrix) before (s .first .small) budget h),
+          (λ _ _. le-leb _ budget (production-settles (s .second .matrix) after (s .second .small) budget h), tt),
+        )) z)
 
 -- ---- at the call: what answers and leaves what the definitions say keeps every promise
 pub compared : (n : ℕ) (d before after : List ℕ) (budget : ℕ) (out₀ work₀ : List ℕ) {r : Report} {out work : List ℕ}

@@ -92,7 +92,7 @@ refusal-nine number place p e z =
 -- and a sheet begins with another letter
 sheet-nine : (n : ℕ) (f y v m : List ℕ) (k place : ℕ) → sheet n f y v m k ≡ refusalLine 9 place → ⊥
 unfolding sheet refusalLine
-sheet-nine n f y v m k place z = let e : 115 ≡ 114 = ap (λ (l : List ℕ). cell l 0) z in omega arith
+sheet-nine n f y v m k place z = eqb-false 115 114 refl (ap (λ (l : List ℕ). cell l 0) z)
 
 -- ---- the sheet: 39 bytes, n lines of at most 70, and 12
 lines-fit : (n : ℕ) (w : ℕ → List ℕ) (most : ℕ) → ((i : ℕ) → i < n → length (w i) ≤ most) → length (linesTo n w) ≤ n * most
@@ -223,7 +223,7 @@ module _ (t : Table) (some-columns : 1 ≤ length (t .columns)) (few-columns : l
 
   figures-stop : sheets .accepted ≡ false → figuresReport t ≡ refuses 1 (sheets .number) (sheets .place)
   unfolding figuresReport
-  figures-stop no = rw no refl
+  figures-stop stopped = rw stopped refl
 
   figures-fit : sheets .accepted ≡ true → length (pageBy (accepts (k ∷ []))) ≤ pageLimit
   figures-fit ok =

@@ -7,21 +7,21 @@ use Prim.Native.Nat.{ℕ, suc, _*_, _≤_, _<_}
 use native.Mathlib.Omega.{arith}
 use native.Mathlib.Nat.{le-refl, le-trans}
 use borrow.Author.Tests.{le-leb, eq-eqb}
-use lib.ListN.{length, replicate}
+use lib.ListN.{length}
 use Rattle.model.specs.Numbers.{sum, largest, at, cell, transposed, oriented}
 use Rattle.model.specs.Table.{sectorLimit}
 use Rattle.model.specs.Rounds.{weighted, intermediate, rounds, Settles, shortfall, settling, settled, impliedDemand}
-use Rattle.model.specs.Checks.{Report, accepts, roundsOf, output, demandLimit, riseLimit, productionLimit, productionTotal, demandLeft}
-use Rattle.model.specs.Calls.{matrixChecks, productionReport, priceReport, impliedReport}
+use Rattle.model.specs.Checks.{Report, accepts, output, demandLimit, productionLimit, productionTotal, demandLeft}
+use Rattle.model.specs.Calls.{matrixChecks, productionReport, impliedReport}
 use Rattle.model.specs.Promises.{AcceptedMatrix, Distinguishes, Accurate, AccuratePrices, Returns, NotAbove}
-use Rattle.model.specs.Contracts.{Produced, Priced, Implied}
+use Rattle.model.specs.Contracts.{Implied}
 use Rattle.theory_rounds.specs.Bounds.{sumLimit}
 use Rattle.theory.proofs.Sums.{sum-most, sum-part, sum-cell, largest-le, largest-cell}
 use Rattle.theory_rounds.proofs.Gauge.{total-gauge, largest-gauge}
 use Rattle.theory_rounds.proofs.Rounds.{equal-starts, settles-fixed, settles-length, lowest, implied-cell, forward-back}
 use Rattle.theory_rounds.proofs.Accuracy.{not-above, lacks-less, rounds-bounded, weighted-bounded}
 use Rattle.theory.proofs.Verdicts.{output-given, pass-on, matrix-accepted}
-use Rattle.theory_rounds.proofs.Answers.{Started, accepted-settled, call-settles, accepted-implied}
+use Rattle.theory_rounds.proofs.Answers.{Started, accepted-settled, accepted-implied}
 
 module _ {n : ℕ} {d : List ℕ} (A : AcceptedMatrix n d) where
   -- Demand 3, first half: equal productions exactly from equal demands, whatever the demands

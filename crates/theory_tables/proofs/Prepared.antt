@@ -11,7 +11,7 @@ use lib.ListN.{length}
 use Rattle.model.specs.Numbers.{one, sum, all, tabulate, cell, at, transposed}
 use Rattle.model.specs.Table.{Table, finalDemand, exports, adjustment, portion, inputCoefficient, valueAddedCoefficient, importCoefficient, domesticCoefficient, domesticDemand}
 use Rattle.model.specs.Rounds.{settling, settled}
-use Rattle.model.specs.Checks.{Check, accepts, verdict, size, lengths, bounded, single, settles, demandLimit, productionBudget, amountLimit, columnSums, inducedAmounts, productionLimit, productionTotal, columnLimit}
+use Rattle.model.specs.Checks.{Check, accepts, size, lengths, bounded, single, settles, demandLimit, productionBudget, amountLimit, columnSums, inducedAmounts, productionLimit, productionTotal, columnLimit}
 use Rattle.model.specs.Calls.{tableChecks, matrixChecks, coefficientsReport, productionReport, inducedReport, inputCoefficients, valueAddedCoefficients, importCoefficients, domesticCoefficients, domesticDemands}
 use Rattle.model.specs.Promises.{AcceptedMatrix, Accurate}
 use Rattle.theory.proofs.Sums.{sum-part}
@@ -89,9 +89,10 @@ module _ (t : Table) (matrices lent : List ℕ) (ok : coefficientsReport t matri
       let slices : all (eqb n) slots ≡ true = rw (eq-eqb n (length f) (sym (length-demands t)), eq-eqb n n refl) in
       let last = bounded 8 0 demandLimit f ∷ single 9 (settles n (at n d) f budget) ∷ [] in
       pass-on (matrixChecks n d [] slots) last (settling n (at n d) f budget ∷ []) (matrix-accepted n d [] slots matrix-is-accepted refl slices)
-      ∙ all-accepted last (settling n (at n d) f budget ∷ [])
-      (λ i l. le-leb (cell f i) demandLimit (small i (rw (length-demands t) at l)),
-      (λ _ _. le-leb _ budget (production-settles matrix-is-accepted f small budget h), tt))
+      ∙ all-accepted last (settling n (at n d) f budget ∷ []) (
+        λ i l. le-leb (cell f i) demandLimit (small i (rw (length-demands t) at l)),
+        (λ _ _. le-leb _ budget (production-settles matrix-is-accepted f small budget h), tt),
+      )
 
   -- Theorem, for the reader: document 02, ticket 3, "The accuracy rule now speaks of demands that include G". The production that is settled from an
   -- accepted table's f, here written out, is near every exact balance of that f
