@@ -3,26 +3,27 @@ use mathlib.Core.Path.{_≡_, refl, sym, ap, _∙_}
 use mathlib.Core.Logic.{_↔_}
 use mathlib.Core.Bool.{Bool, true, false, _&&_, cond}
 use mathlib.Core.List.{List, [], _∷_, _++_}
-use Prim.Native.Nat.{ℕ, _*_, _<_}
+use Prim.Native.Nat.{ℕ, _*_, _≤_, _<_}
 use native.Mathlib.Omega.{arith}
-use native.Mathlib.Nat.{le-refl, lt-of-not-le}
+use native.Mathlib.Nat.{le-refl}
 use borrow.Author.Tests.{le-leb, leb-true}
-use lib.Dec.{eqb, lit≤}
+use lib.Dec.{eqb}
 use lib.ListN.{length, replicate}
 use Rattle.model.specs.Numbers.{all, sum, cell, at}
 use Rattle.model.specs.Rounds.{settling, settled, Settles, impact, impactRounds}
-use Rattle.model.specs.Checks.{Report, Check, verdict, output, lengths, demandChecks, bothSettle, demandLimit, productionBudget}
+use Rattle.model.specs.Checks.{Report, Check, verdict, output, single, settles, lengths, demandChecks, bothSettle, demandLimit, productionBudget}
 use Rattle.model.specs.Calls.{matrixChecks, settlingChecks, productionReport, impactReport}
 use Rattle.model.specs.Promises.{AcceptedMatrix, Equal, NowhereBelow, added, Rises}
 use Rattle.model.specs.Contracts.{Compared}
 use Rattle.theory.specs.Slices.{Each}
 use Rattle.theory.proofs.Sums.{sum-cong}
 use Rattle.theory.proofs.Lists.{length-tabulate, cell-tabulate, zeroed, and-true}
-use Rattle.theory.proofs.Verdicts.{Passes, AllPass, accepted-all, all-accepted, output-given, output-from, not-told}
+use Rattle.theory.proofs.Verdicts.{Passes, AllPass, accepted-all, all-accepted, output-given, output-from}
 use Rattle.theory_rounds.proofs.Gauge.{total-gauge}
 use Rattle.theory_rounds.proofs.Rounds.{equal-starts}
 use Rattle.theory_rounds.proofs.Answers.{Started, started, accepted-settled}
 use Rattle.theory_budgets.proofs.Budgets.{production-settles}
+use Rattle.theory_budgets.proofs.Calls.{nine-below}
 use Rattle.theory_impacts.proofs.Rises.{none-falls, rises-most, rises-less}
 
 -- ---- the rise
@@ -140,14 +141,14 @@ module _ (n : ℕ) (d before after lent : List ℕ) where
     -- and 9 comes from lower budgets alone
     impact-nine : impactReport n d before after budget lent .number ≡ 9 → budget < productionBudget
     unfolding impactReport
-    impact-nine z =
-        lt-of-not-le (λ h.
-        not-told 9 (matrixChecks n d [] (length before ∷ length after ∷ lent) ++ demandChecks n before after) (bothSettle n (at n d) before after budget) larger refl (lit≤ tt)
-        (λ p.
-        let s = both-started p in (
-          λ _ _. le-leb _ budget (production-settles (s .first .matrix) before (s .first .small) budget h),
-          (λ _ _. le-leb _ budget (production-settles (s .second .matrix) after (s .second .small) budget h), tt),
-        )) z)
+    impact-nine =
+        nine-below (matrixChecks n d [] (length before ∷ length after ∷ lent) ++ demandChecks n before after) (bothSettle n (at n d) before after budget) larger budget productionBudget refl
+        (λ h p.
+        let s = both-started p in
+        (settling-within (s .first) h, (settling-within (s .second) h, tt)))
+      where
+        settling-within : {f : List ℕ} → Started n d demandLimit f lent → productionBudget ≤ budget → Passes (single 9 (settles n (at n d) f budget))
+        settling-within {f} s h = λ _ _. le-leb (settling n (at n d) f budget) budget (production-settles (s .matrix) f (s .small) budget h)
 
 -- ---- at the call: what answers and leaves what the definitions say keeps every promise
 pub compared : (n : ℕ) (d before after : List ℕ) (budget : ℕ) (out₀ work₀ : List ℕ) {r : Report} {out work : List ℕ}
@@ -164,7 +165,7 @@ compared n d before after budget out₀ work₀ {r} {out} e o z =
           rises (known a .matrix) (known a .below) (known a .first) (known a .second)
           (λ i h. ap (λ (l : List ℕ). cell l i) (o ∙ output-given r (length out₀) risen a) ∙ impact-cell n (at n d) before after budget i h);
       equal = λ q. o ∙ output-from r {len = length out₀} refl (nothing q) ∙ either (replicate (length out₀) 0) (r .accepted);
-      enough = λ z. impact-nine n d before after lent budget (ap (λ (r : Report). r .number) (sym e) ∙ z);
+      enough = λ nine. impact-nine n d before after lent budget (ap (λ (r : Report). r .number) (sym e) ∙ nine);
     }
   where
     lent : List ℕ
