@@ -62,6 +62,7 @@ pub record Priced (n : ℕ) (d w : Cells) (budget : ℕ) (out₀ work₀ : Cells
   pub cleared : work ≡ replicate (length work₀) 0
   pub settles : r .accepted ≡ true → Settles n (transposed (at n d)) w (roundsOf r) out
   pub accurate : r .accepted ≡ true → AccuratePrices n d w out
+  -- document 02, ticket 5, of prices
   pub enough : r .number ≡ 9 → budget < priceBudget
 
 -- The demand for domestic goods behind a production y. Demand 2 is `returns` and `inverse`: for a production that rounds have settled it is the demand
@@ -87,6 +88,7 @@ pub record Inverted (n : ℕ) (d : Cells) (budget : ℕ) (sheet₀ power₀ sens
   pub sheets : sheet ≡ output r (length sheet₀) (inverse n d budget)
   pub powers : power ≡ output r (length power₀) (dispersion n (at n (inverse n d budget)))
   pub sensitivities : sensitivity ≡ output r (length sensitivity₀) (dispersion n (transposed (at n (inverse n d budget))))
+  -- document 02, ticket 5, of inverse columns
   pub enough : r .number ≡ 9 → budget < priceBudget
 
 -- What a scheme adds: the rise of production from a demand before to a demand after (document 02, ticket 4)
@@ -107,6 +109,7 @@ pub record Compared (n : ℕ) (d before after : Cells) (budget : ℕ) (out₀ wo
   pub rises : r .accepted ≡ true → Rises n before after (settled n (at n d) before budget) (settled n (at n d) after budget) out
   -- equal demands give 0 in every cell, also where the call is refused
   pub equal : Equal n before after → out ≡ replicate (length out₀) 0
+  -- document 02, ticket 5, of both productions
   pub enough : r .number ≡ 9 → budget < productionBudget
 
 -- The slices that a table file is read into, or written from: x, F, E, M, V, X, G and the rises
