@@ -47,20 +47,20 @@ static void questions(void) {
 /* One sector, whose coefficient, demand and rise may be at a limit or one over it. */
 static void produce(uint64_t d, uint64_t f) {
     uint64_t out, work;
-    tawqeshim_production(1, &d, 1, &f, 1, TAWQESHIM_PAGE_BUDGET, &out, 1, &work, 1, &number, &place, &rounds);
+    tawqeshim_production(1, &d, 1, &f, 1, TAWQESHIM_PRODUCTION_BUDGET, &out, 1, &work, 1, &number, &place, &rounds);
 }
 
 /* Its rise from one demand to a second. */
 static uint64_t add(uint64_t before, uint64_t after) {
     uint64_t d = TAWQESHIM_COLUMN_LIMIT, out = 7, work = 7;
-    tawqeshim_impact(1, &d, 1, &before, 1, &after, 1, TAWQESHIM_PAGE_BUDGET, &out, 1, &work, 1, &number, &place, &rounds);
+    tawqeshim_impact(1, &d, 1, &before, 1, &after, 1, TAWQESHIM_PRODUCTION_BUDGET, &out, 1, &work, 1, &number, &place, &rounds);
     expect(work == 0, "the work of a scheme is not 0");
     return out;
 }
 
 static void rise(uint64_t w) {
     uint64_t d = 0, out, work;
-    tawqeshim_price(1, &d, 1, &w, 1, TAWQESHIM_PAGE_BUDGET, &out, 1, &work, 1, &number, &place, &rounds);
+    tawqeshim_price(1, &d, 1, &w, 1, TAWQESHIM_PRICE_BUDGET, &out, 1, &work, 1, &number, &place, &rounds);
 }
 
 static void imply(uint64_t production) {
