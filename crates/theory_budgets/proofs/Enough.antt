@@ -1,13 +1,11 @@
 -- Rounds settle within a bound, for any gauge. The gap to the settled amounts falls to 950,000 millionths in each round, until it is at most 20 for each
 -- unit of the gauge, so 20 for each sector; from there each round that changes a sector lowers the total gap by 1 or more. Assumes nothing.
-use mathlib.Core.Path.{_≡_, refl, sym, ap, _∙_, subst⁻¹}
-use mathlib.Core.Bool.{Bool, true, false, not, true≢false}
+use mathlib.Core.Path.{_≡_, sym, ap, _∙_, subst⁻¹}
+use mathlib.Core.Bool.{true, not, true≢false}
 use mathlib.Core.List.{List}
 use Prim.Native.Nat.{ℕ, zero, suc, _+_, _*_, _-_, _^_, _≤_, _<_}
 use native.Mathlib.Omega.{arith}
-use native.Mathlib.Nat.{le-refl, le-step, lt-suc-self, le-trans, le-of-eq, lt-of-not-le, lt-of-le-of-lt, mul-le-mul-left, mul-le-mul-right, le-of-mul-le-mul-left, lt-of-mul-lt-mul-left, mul-one, sub-add-cancel, sub-le, pow-suc, add-zero, add-suc, not-suc-le-zero}
-use borrow.Author.Tests.{leb-true, leb-false}
-use lib.Dec.{leb}
+use native.Mathlib.Nat.{le-refl, le-step, le-of-suc-le-suc, lt-suc-self, le-trans, le-of-eq, lt-of-not-le, lt-of-le-of-lt, mul-le-mul-left, mul-le-mul-right, le-of-mul-le-mul-left, lt-of-mul-lt-mul-left, mul-one, sub-add-cancel, sub-le, pow-suc, add-zero, add-suc, not-suc-le-zero}
 use Rattle.model.specs.Numbers.{one, sum, cell}
 use Rattle.model.specs.Rounds.{weighted, rounds, changes, settling, settled, Settles}
 use Rattle.model.specs.Checks.{columnLimit}
@@ -51,12 +49,8 @@ module _ (n : ℕ) (c : ℕ → ℕ → ℕ) (s : List ℕ) where
       rw (add-suc m t) (omega (arith, climbs m t (λ j h. all j (le-step h)), lifts (m + t) (all t (lt-suc-self t))))
 
   -- rounds that do not all change a sector within the budget settle within it
-  not-all : (budget : ℕ) → (All (changes n c s) (suc budget) → ⊥) → settling n c s budget ≤ budget
-  not-all budget some = split (leb (settling n c s budget) budget) refl
-    where
-      split : (b : Bool) → leb (settling n c s budget) budget ≡ b → settling n c s budget ≤ budget
-      split true e = leb-true _ _ e
-      split false e = absurd (some (not-settled n c s budget (leb-false _ _ e)))
+  within-budget : (budget : ℕ) → (All (changes n c s) (suc budget) → ⊥) → settling n c s budget ≤ budget
+  within-budget budget some = le-of-suc-le-suc (lt-of-not-le (λ h. some (not-settled n c s budget h)))
 
   module _ (N : (ℕ → ℕ) → ℕ) (u : ℕ) (γ : Gauge n c N u) (some : 1 ≤ u) where
     -- they settle, since they are bounded
@@ -64,7 +58,7 @@ module _ (n : ℕ) (c : ℕ → ℕ → ℕ) (s : List ℕ) where
     bound = suc (n * (20 * N (cell s)))
 
     ends : Settles n c s (settling n c s bound) (settled n c s bound)
-    ends = counted n c s bound (not-all bound (λ all.
+    ends = counted n c s bound (within-budget bound (λ all.
         let y : ℕ → ℕ = cell (rounds n c s (0 + bound)) in
         omega (
           arith,
@@ -79,9 +73,11 @@ module _ (n : ℕ) (c : ℕ → ℕ → ℕ) (s : List ℕ) where
       gap : ℕ → ℕ → ℕ
       gap m i = cell y i - cell (rounds n c s m) i
 
+      -- no round is above them
       below : (m i : ℕ) → i < n → cell (rounds n c s m) i ≤ cell y i
       below m i h = least n c s (cell y) (λ j l. le-of-eq (sym (settles-fixed n c σ j l))) m i h
 
+      -- of the gap a round leaves what is passed on of it, and what rounding loses
       gap-falls : (m : ℕ) → one * N (gap (suc m)) ≤ columnLimit * N (gap m) + one * u
       unfolding gap
       gap-falls m =
@@ -97,6 +93,7 @@ module _ (n : ℕ) (c : ℕ → ℕ → ℕ) (s : List ℕ) where
           passed : (i : ℕ) → i < n → one * gap (suc m) i ≤ one - 1 + weighted n c (gap m) i
           passed i h = omega (arith, rounds-cell n c s m i h, settles-fixed n c σ i h, intermediate-apart n c (below m) i)
 
+      -- it starts below 20 times the start, and after m rounds it is at most 20 a sector
       gap-start : N (gap 0) ≤ 20 * N (cell s)
       unfolding gap
       gap-start =
@@ -113,9 +110,9 @@ module _ (n : ℕ) (c : ℕ → ℕ → ℕ) (s : List ℕ) where
           le-of-mul-le-mul-left (omega (arith, γ .total (gap m), mul-le-mul-left n units)) some
 
       -- so of 20 n + 1 rounds more one changes no sector
-      one-does-not : (m : ℕ) → columnLimit ^ m * (20 * N (cell s)) < one ^ m → (budget : ℕ) → m + 20 * n < budget → All (changes n c s) (suc budget) → ⊥
+      not-all : (m : ℕ) → columnLimit ^ m * (20 * N (cell s)) < one ^ m → (budget : ℕ) → m + 20 * n < budget → All (changes n c s) (suc budget) → ⊥
       unfolding gap
-      one-does-not m h budget room all =
+      not-all m h budget room all =
           omega (
             arith,
             climbs m (suc (20 * n)) (λ j l. all (suc (m + j)) (omega arith)),
@@ -127,4 +124,4 @@ module _ (n : ℕ) (c : ℕ → ℕ → ℕ) (s : List ℕ) where
 
     -- m rounds until the gap is small, and 20 n + 1 more, are enough
     pub enough : (m : ℕ) → columnLimit ^ m * (20 * N (cell s)) < one ^ m → (budget : ℕ) → m + 20 * n < budget → settling n c s budget ≤ budget
-    enough m h budget room = not-all budget (one-does-not ends m h budget room)
+    enough m h budget room = within-budget budget (not-all ends m h budget room)
