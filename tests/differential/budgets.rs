@@ -38,7 +38,7 @@ fn ring(amount: u64) -> (Vec<u64>, Vec<u64>) {
 /// so that it can pass a unit on 19 times. The store's last unit lifts sector 1 by a unit, which goes round. The sectors of
 /// the ring leave a little to sector 1 and to the store, so that the unit passes them too, and takes 40 rounds each time.
 /// The demands are those behind the amounts at which the ring rests.
-fn store_and_ring() -> (Vec<u64>, Vec<u64>) {
+pub fn store_and_ring() -> (Vec<u64>, Vec<u64>) {
     const NEXT: u64 = 947_379;
     const FIRST: u64 = 2_050;
     let mut d = vec![0; N * N];
