@@ -34,11 +34,11 @@ fn ring(amount: u64) -> (Vec<u64>, Vec<u64>) {
     (d, start)
 }
 
-/// A store and a ring of 39. Sector 0, the store, buys mostly from itself and settles last; the ring rests before that, each sector
-/// so that it can pass a unit on 19 times. The store's last unit lifts sector 1 by a unit, which goes round. The sectors of
-/// the ring leave a little to sector 1 and to the store, so that the unit passes them too, and takes 40 rounds each time.
+/// A loop and a ring of 39. Sector 0, the loop, buys mostly from itself and settles last; the ring rests before that, each sector
+/// where it can pass a unit on 19 times. The loop's last unit lifts sector 1 by a unit, which goes round. The sectors of
+/// the ring buy a little from sector 1 and from the loop too, so that the unit is passed on there, and takes 40 rounds each time.
 /// The demands are those behind the amounts at which the ring rests.
-pub fn store_and_ring() -> (Vec<u64>, Vec<u64>) {
+pub fn loop_and_ring() -> (Vec<u64>, Vec<u64>) {
     const NEXT: u64 = 947_379;
     const FIRST: u64 = 2_050;
     let mut d = vec![0; N * N];
@@ -53,14 +53,14 @@ pub fn store_and_ring() -> (Vec<u64>, Vec<u64>) {
     (rest[0], rest[1]) = (77_696_537_295, 38_007_651_736);
     let taken = |i: usize| (0..N).map(|j| d[i * N + j] * rest[j]).sum::<u64>() / MILLION;
     let mut demand: Vec<u64> = (0..N).map(|i| rest[i] - taken(i)).collect();
-    // Sector 1 rests a unit lower, until the store has its last unit.
+    // Sector 1 rests a unit lower, until the loop has its last unit.
     demand[1] += 1;
     (d, demand)
 }
 
-/// The same for a column of the inverse, in which only the store has a demand. The ring lives on what sector 1 has
-/// from the store; each sector passes on the most with which it rests as above.
-fn store_and_ring_of_units() -> Vec<u64> {
+/// The same for a column of the inverse, in which only the loop has a demand: of the ring there is demanded what the loop buys
+/// from sector 1. Each sector buys the most from the next with which that one rests as above.
+fn loop_and_ring_of_units() -> Vec<u64> {
     const OUTLET: u64 = 152;
     const FIRST: u64 = 1_370;
     let mut d = vec![0; N * N];
@@ -83,15 +83,15 @@ fn slow() -> Vec<(Call, Vec<Vec<u64>>, usize)> {
     let (rises, most) = (RISE_LIMIT as u64, DEMAND_LIMIT as u64);
     let (d, demand) = ring(most - 20);
     let (turned, rise) = ring(rises - 20);
-    let (store, stored) = store_and_ring();
+    let (slowest, slowest_demand) = loop_and_ring();
     vec![
         (Call::Production, vec![d.clone(), demand.clone()], 1_189),
-        (Call::Production, vec![store.clone(), stored.clone()], 1_244),
+        (Call::Production, vec![slowest.clone(), slowest_demand.clone()], 1_244),
         // In the one impact the second demand is slow, in the other the first.
-        (Call::Impact, vec![store, vec![0; N], stored], 1_244),
+        (Call::Impact, vec![slowest, vec![0; N], slowest_demand], 1_244),
         (Call::Impact, vec![d, demand, vec![most; N]], 1_189),
         (Call::Price, vec![turned, rise], 1_175),
-        (Call::Inverse, vec![store_and_ring_of_units()], 1_022),
+        (Call::Inverse, vec![loop_and_ring_of_units()], 1_022),
     ]
 }
 

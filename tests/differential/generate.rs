@@ -1,6 +1,6 @@
 //! Pseudo-random cases: valid, nearly valid and hostile. A case depends on its index alone.
 
-use crate::budgets::{store_and_ring, ENOUGH};
+use crate::budgets::{loop_and_ring, ENOUGH};
 use crate::calls::{by_reference, Call, Case, PAGE_BYTES};
 use crate::reference::{self, SECTORS};
 
@@ -1056,7 +1056,7 @@ fn slow_start(rng: &mut Rng, n: usize, limit: u64) -> Vec<u64> {
 
 /// The slowest demand that is known, or one a unit or two from it somewhere.
 fn near_slowest(rng: &mut Rng) -> (Vec<u64>, Vec<u64>) {
-    let (d, mut demand) = store_and_ring();
+    let (d, mut demand) = loop_and_ring();
     let at = rng.below(SECTORS);
     demand[at] = (demand[at] + rng.upto(4)).saturating_sub(2).min(DEMAND);
     (d, demand)

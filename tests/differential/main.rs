@@ -124,12 +124,8 @@ fn self_test() -> u64 {
     wrong
 }
 
-fn main() {
-    let cases = match std::env::args().nth(1) {
-        None => CASES,
-        Some(word) => word.parse().expect("the number of cases"),
-    };
-    let wrong = self_test();
+/// The worked cases and as many pseudo-random ones.
+fn compare(cases: u64) -> Tally {
     let mut tally = Tally::new();
     for (name, case, _) in worked::cases() {
         tally.case(name, case);
@@ -148,13 +144,11 @@ fn main() {
             tally.add(thread.join().expect("a thread of the test"));
         }
     });
-    let exact = exact::run(SEED, SHEETS);
-    let archives = archives::run(SEED, TABLES);
-    let slow = budgets::run();
+    tally
+}
 
-    for (case, told) in &tally.smallest {
-        println!("{told}\n  {case:?}");
-    }
+/// Tells how often each number was seen. Returns how many never were.
+fn tell_numbers(tally: &Tally) -> u64 {
     let mut unseen = 0;
     for call in CALLS {
         let seen = &tally.seen[call as usize];
@@ -168,6 +162,24 @@ fn main() {
             println!("{}: number {number} was never seen", call.name());
         }
     }
+    unseen
+}
+
+fn main() {
+    let cases = match std::env::args().nth(1) {
+        None => CASES,
+        Some(word) => word.parse().expect("the number of cases"),
+    };
+    let wrong = self_test();
+    let tally = compare(cases);
+    let exact = exact::run(SEED, SHEETS);
+    let archives = archives::run(SEED, TABLES);
+    let slow = budgets::run();
+
+    for (case, told) in &tally.smallest {
+        println!("{told}\n  {case:?}");
+    }
+    let unseen = tell_numbers(&tally);
     println!("most rounds: {}", tally.most_rounds);
     println!(
         "exact balances: {} sheets, {} pairs of demands, {} broken",
@@ -182,8 +194,8 @@ fn main() {
         "slow sheets: {}, rounds at most: production {production}, impact {impact}, price {price}, inverse {inverse}, {} broken",
         slow.sheets, slow.broken
     );
-    let broken = exact.broken + archives.broken + slow.broken;
-    let differences = tally.differences + wrong + unseen + broken as u64;
+    let broken = (exact.broken + archives.broken + slow.broken) as u64;
+    let differences = tally.differences + wrong + unseen + broken;
     println!("differential: {} cases, {differences} differences", tally.cases);
     if differences > 0 {
         exit(1);

@@ -410,8 +410,8 @@ class Budgets(Refusing):
     N = 40
     RING = [[950_000 if i == (j + 1) % 40 else 0 for j in range(40)] for i in range(40)]  # each sector buys from the next alone
 
-    def store_and_ring(self, outlet, first, nexts, last):
-        """Sector 0 buys from itself, sector 1 from it, and the others in a ring, with a little from sector 1."""
+    def loop_and_ring(self, outlet, first, nexts, last):
+        """Sector 0 buys from itself and a little from sector 1; the others buy in a ring, and a little from sector 1."""
         d = [[0] * self.N for _ in range(self.N)]
         d[0][0], d[1][0], d[1][-1] = 950_000 - outlet, outlet, last
         for j, cell in enumerate(nexts, 1):
@@ -420,7 +420,7 @@ class Budgets(Refusing):
 
     def slowest_production(self):
         first = 2_050
-        d = self.store_and_ring(1, first, [947_379] * (self.N - 2), 999_999 - first * (self.N - 3))
+        d = self.loop_and_ring(1, first, [947_379] * (self.N - 2), 999_999 - first * (self.N - 3))
         for j in range(1, self.N):
             d[0][j] = 950_000 - sum(row[j] for row in d)
         rest = [77_696_537_295, 38_007_651_736] + [38_007_537_295] * (self.N - 2)
@@ -436,7 +436,7 @@ class Budgets(Refusing):
                 cell -= 1
             nexts.append(cell)
             amount = cell * amount // 10**6
-        return self.store_and_ring(152, first, nexts, 949_638)
+        return self.loop_and_ring(152, first, nexts, 949_638)
 
     def test_slowest(self):
         demand, rises = ([limit - 19] + [limit - 20] * (self.N - 1) for limit in (2 * 10**9, 10**9))

@@ -2,7 +2,10 @@
 //!
 //! `slow [seconds [seed]]` looks for production, price and a column of the inverse in turn. A sheet is built from
 //! a family and a few numbers; numbers are drawn, then changed one at a time as long as the count does not fall.
-//! What is printed is settled again by the reference of `tests/differential`.
+//! The slowest is settled again by the reference of `tests/differential`. It is printed with its family and
+//! numbers, from which it can be built again, and with a count that no sheet can pass (`bound`).
+//!
+//! Searched: up to 40 sectors, amounts up to the limits, for FOUND_TIME in all. Slowest: FOUND_LIST
 
 #[allow(dead_code)]
 #[path = "../differential/reference.rs"]
@@ -92,6 +95,27 @@ impl Sheet {
         };
         given.ok().map(|given| given.counts[0] as u32)
     }
+}
+
+/// A count that no sheet can pass. Let the gap of a sector be what it still lacks of its settled amount. At the start no price lacks over
+/// 19 times the limit, and all productions together no more than 19 times all demands. A round leaves of the largest gap of a price at
+/// most 95 of 100, rounded up; of all gaps of a production together as much and less than a unit for each sector. Besides, it
+/// lowers the sum of gaps by 1, or changes nothing and is the last.
+fn bound(kind: Kind) -> u32 {
+    let sectors = if kind == Kind::Production { MOST } else { 1 };
+    let (mut gap, mut count) = (19 * sectors * kind.limit(), 1);
+    if kind == Kind::Price {
+        while gap > 19 {
+            gap = (95 * gap).div_ceil(100);
+            count += 1;
+        }
+        return count + 19 * MOST as u32;
+    }
+    while gap > 0 {
+        gap = (gap - 1).min((95 * gap + 100 * MOST - 1) / 100);
+        count += 1;
+    }
+    count
 }
 
 /// Xorshift, 64 bits.
@@ -210,16 +234,19 @@ fn few(kind: Kind, p: &[u64]) -> Option<Sheet> {
 }
 
 // ---------------------------------------------------------------------------------------------
-// A store and a ring. Sector 0, the store, sells mostly to itself and settles last. The other sectors are
-// a ring that rests before that, each so that a unit more is passed on 19 times. The last unit of the store
-// lifts sector 1 by a unit, and that unit goes round. Each sector leaves a little to sector 1, without which
+// A loop and a ring. Sector 0, the loop, buys mostly from itself and settles last. The other sectors buy
+// in a ring that rests before that, each where a unit more is passed on 19 times. The last unit of the loop
+// lifts sector 1 by a unit, and that unit goes round. Each sector buys a little from sector 1 too, without which
 // the unit would stop there when it comes back.
 // ---------------------------------------------------------------------------------------------
 
-/// Production. What the ring leaves to the store makes it large and lifts it by a unit each time round, for
-/// which sector 1 waits a round. The demands follow from the amounts at which the ring rests; the first such
-/// amounts below the limit that fit are taken.
-fn store(kind: Kind, p: &[u64]) -> Option<Sheet> {
+/// Production. What the ring buys from the loop makes it large and lifts it by a unit each time round, for
+/// which sector 1 waits a round. The demands follow from the amounts at which the ring rests; of those below
+/// the limit that fit the first are taken, after some that are skipped.
+fn loop_ring(kind: Kind, p: &[u64]) -> Option<Sheet> {
+    if kind != Kind::Production {
+        return None;
+    }
     let (n, next, first) = (p[0] as usize, p[1], p[2]);
     let last = n - 1;
     let mut sheet = Sheet::new(n);
@@ -231,20 +258,19 @@ fn store(kind: Kind, p: &[u64]) -> Option<Sheet> {
         let sum = (1..n).map(|i| sheet.d[i * n + j]).sum();
         sheet.put(0, j, LIMIT.checked_sub(sum)?);
     }
-    let rest = store_rest(&sheet, next, p[3])?;
+    let rest = loop_rest(&sheet, next, p[3])?;
     for i in 0..n {
         let taken: u64 = (0..n).map(|j| sheet.d[i * n + j] * rest[j]).sum();
         sheet.start[i] = rest[i].checked_sub(taken / MILLION)?;
     }
-    // Sector 1 rests until the store has its last unit.
+    // Sector 1 rests until the loop has its last unit.
     sheet.start[1] += 1;
-    let within = kind == Kind::Production && sheet.start.iter().all(|amount| *amount <= kind.limit());
-    if within { Some(sheet) } else { None }
+    if sheet.start.iter().all(|amount| *amount <= kind.limit()) { Some(sheet) } else { None }
 }
 
-/// Amounts of the store and of the ring: each sector can pass a unit on 19 times, sector 1 lacks a millionth of
-/// the store's last unit, and the store is lifted by what the last sector leaves to it, each time round.
-fn store_rest(sheet: &Sheet, next: u64, skipped: u64) -> Option<Vec<u64>> {
+/// Amounts of the loop and of the ring: each sector can pass a unit on 19 times, sector 1 lacks the millionth of
+/// the loop's last unit, and the loop is lifted when the unit reaches the last sector, each time round.
+fn loop_rest(sheet: &Sheet, next: u64, skipped: u64) -> Option<Vec<u64>> {
     let (n, top) = (sheet.n, reference::DEMAND_LIMIT as u64);
     let passes = |amount: u64| next * amount % MILLION >= 19 * (MILLION - next);
     let given = sheet.d[n - 1];
@@ -255,43 +281,44 @@ fn store_rest(sheet: &Sheet, next: u64, skipped: u64) -> Option<Vec<u64>> {
     let low = top * MILLION / (MILLION - next) - 1_000;
     let level = (low - 500_000..low).rev().filter(|level| passes(*level)).nth(skipped as usize)?;
     let ring = (sheet.d[n + n - 1] + (2..n - 1).map(|j| sheet.d[n + j]).sum::<u64>()) * level;
-    let gate = ring / MILLION + 90_000;
-    for gate in (gate..gate + 1_000_000).filter(|gate| passes(*gate)) {
-        let left = sheet.d[1] * gate + sheet.d[2..n].iter().sum::<u64>() * level;
+    let entry = ring / MILLION + 90_000;
+    for entry in (entry..entry + 1_000_000).filter(|entry| passes(*entry)) {
+        let left = sheet.d[1] * entry + sheet.d[2..n].iter().sum::<u64>() * level;
         let most = ((top - 100_000) * MILLION + left) / 50_001;
-        let store = most - most % MILLION - ring % MILLION;
-        let over = (sheet.d[0] * store + left) % MILLION;
+        let looped = most - most % MILLION - ring % MILLION;
+        let over = (sheet.d[0] * looped + left) % MILLION;
         if over >= 949_999 + 18 * short && over < 949_999 + given {
             let mut rest = vec![level; n];
-            (rest[0], rest[1]) = (store, gate);
+            (rest[0], rest[1]) = (looped, entry);
             return Some(rest);
         }
     }
     None
 }
 
-/// A column of the inverse: the ring has what sector 1 has from the store. The largest amounts of sector 1 that fit are taken.
-fn unit_store(kind: Kind, p: &[u64]) -> Option<Sheet> {
+/// A column of the inverse: nothing is demanded of the ring but what the loop buys from sector 1. Of the amounts of sector 1
+/// that fit the largest are taken, after some that are skipped.
+fn unit_loop(kind: Kind, p: &[u64]) -> Option<Sheet> {
     if kind != Kind::Inverse {
         return None;
     }
     let (outlet, own) = (p[1], LIMIT - p[1]);
-    let mut store = MILLION;
-    while MILLION + own * store / MILLION != store {
-        store = MILLION + own * store / MILLION;
+    let mut looped = MILLION;
+    while MILLION + own * looped / MILLION != looped {
+        looped = MILLION + own * looped / MILLION;
     }
-    let gate = outlet * store / MILLION;
-    (gate * 9 / 8..gate * 5 / 4).rev().filter_map(|gate| unit_ring(p[0] as usize, outlet, p[2], store, gate)).nth(p[3] as usize)
+    let entry = outlet * looped / MILLION;
+    (entry * 9 / 8..entry * 5 / 4).rev().filter_map(|entry| unit_ring(p[0] as usize, outlet, p[2], looped, entry)).nth(p[3] as usize)
 }
 
 /// The same with an amount of sector 1. Each sector passes on as much as it can so that it rests where a unit more is passed on 19 times.
-fn unit_ring(n: usize, outlet: u64, first: u64, store: u64, gate: u64) -> Option<Sheet> {
+fn unit_ring(n: usize, outlet: u64, first: u64, looped: u64, entry: u64) -> Option<Sheet> {
     let last = n - 1;
     let mut sheet = Sheet::new(n);
     sheet.start[0] = MILLION;
     sheet.put(0, 0, LIMIT - outlet);
     sheet.put(1, 0, outlet);
-    let (mut amount, mut left) = (gate, 0);
+    let (mut amount, mut left) = (entry, 0);
     for j in 1..last {
         let most = if j == 1 { LIMIT } else { LIMIT - first };
         let cell = (most - 2_000..=most).rev().find(|cell| cell * amount % MILLION >= 19 * (MILLION - cell))?;
@@ -302,8 +329,8 @@ fn unit_ring(n: usize, outlet: u64, first: u64, store: u64, gate: u64) -> Option
         }
         amount = cell * amount / MILLION;
     }
-    // Sector 1 lacks less than what the store's last unit gives it.
-    let lacks = ((gate + 1) * MILLION - 1).checked_sub(left + outlet * (store - 1))?;
+    // Sector 1 lacks less than what the loop's last unit gives it.
+    let lacks = ((entry + 1) * MILLION - 1).checked_sub(left + outlet * (looped - 1))?;
     let cell = lacks / amount.max(1);
     sheet.put(1, last, cell);
     let fits = cell <= LIMIT && cell + (n as u64 - 3) * first >= MILLION && lacks - cell * amount < outlet;
@@ -317,14 +344,14 @@ const FAMILIES: &[Family] = &[
     Family { name: "loops", numbers: &[("sectors", 1, MOST), ("own", 0, LIMIT), SUMS, START, LESS, DRAW], build: loops },
     Family { name: "few cells", numbers: &[("sectors", 1, MOST), ("cells", 1, 4), SUMS, START, LESS, DRAW], build: few },
     Family {
-        name: "store and ring",
+        name: "loop and ring",
         numbers: &[("sectors", 38, MOST), ("next", 947_369, 947_430), ("first", 1_900, 2_450), ("skipped", 0, 20)],
-        build: store,
+        build: loop_ring,
     },
     Family {
-        name: "store and ring of units",
+        name: "loop and ring of units",
         numbers: &[("sectors", 38, MOST), ("outlet", 40, 900), ("first", 1_352, 1_500), ("skipped", 0, 3)],
-        build: unit_store,
+        build: unit_loop,
     },
 ];
 const SUMS: (&str, u64, u64) = ("sums", 0, 60);
@@ -421,7 +448,7 @@ fn main() {
         let count = confirmed.unwrap_or(slowest.count);
         wrong |= !agree;
         over |= count > ENOUGH;
-        println!("{name}: slowest {count} rounds, n {}, {}", sheet.n, slowest.told());
+        println!("{name}: slowest {count} rounds, n {}, {}; none can take over {}", sheet.n, slowest.told(), bound(kind));
         if !agree {
             println!("{name}: the reference gives {confirmed:?}, the search {}", slowest.count);
         }
