@@ -1,5 +1,6 @@
 //! Pseudo-random cases: valid, nearly valid and hostile. A case depends on its index alone.
 
+use crate::budgets::{loop_and_ring, ENOUGH};
 use crate::calls::{by_reference, Call, Case, PAGE_BYTES};
 use crate::reference::{self, SECTORS};
 
@@ -112,7 +113,8 @@ fn budget(rng: &mut Rng) -> u32 {
         0 => 0,
         1 => 1 + rng.below(20) as u32,
         2..=4 => u32::MAX,
-        _ => 1400,
+        5 => rng.of(&[ENOUGH - 1, ENOUGH + 1, 2 * ENOUGH]),
+        _ => ENOUGH,
     }
 }
 
@@ -518,7 +520,9 @@ fn drawn_table(rng: &mut Rng, n: usize) -> Table {
 fn pressed_table(rng: &mut Rng, n: usize) -> Table {
     let mut table = zero_table(n);
     let unit = rng.between(1, 1_000);
-    for weight in split(rng, COLUMN, 3) {
+    // One part makes rings, which settle slowly.
+    let parts = rng.of(&[1, 3, 3]);
+    for weight in split(rng, COLUMN, parts) {
         for (i, j) in permutation(rng, n).into_iter().enumerate() {
             table[0][i * n + j] += weight * unit;
         }
@@ -1025,31 +1029,64 @@ fn bend_n(rng: &mut Rng, case: &mut Case) {
     }
 }
 
-/// A ring of 40 at the limit: over 1,000 rounds. One sector has a unit more than the others, and
-/// that unit goes round the ring up to 19 times before nothing changes.
-fn long_ring(rng: &mut Rng) -> Case {
-    let n = SECTORS;
+/// Rings at the column limit or a little below it: one of all sectors, or several, some of whose sectors buy from themselves too.
+fn slow_sheet(rng: &mut Rng, n: usize) -> Vec<u64> {
     let mut d = vec![0; n * n];
-    (0..n).for_each(|j| d[(j + 1) % n * n + j] = COLUMN);
-    let call = rng.of(&[Call::Production, Call::Impact, Call::Price]);
-    let limit = if call == Call::Price { RISE } else { DEMAND };
+    let below = rng.of(&[0, 0, 0, 1, 60]);
+    let own = rng.of(&[0, 0, 0, 5_000, COLUMN]);
+    let order = if rng.chance(3, 4) { (0..n).map(|j| (j + 1) % n).collect() } else { permutation(rng, n) };
+    for (j, i) in order.into_iter().enumerate() {
+        let kept = rng.upto(own);
+        d[i * n + j] = COLUMN - kept;
+        d[j * n + j] += kept.saturating_sub(rng.upto(below));
+    }
+    d
+}
+
+/// Amounts of which one is a unit more than the others: on a ring of 40 that unit goes round up to 19 times before nothing
+/// changes, and there are over 1,000 rounds. Or any amounts.
+fn slow_start(rng: &mut Rng, n: usize, limit: u64) -> Vec<u64> {
+    if rng.chance(1, 4) {
+        return starts(rng, n, limit);
+    }
     let mut start = vec![rng.of(&[limit - 1, limit - 20, limit / 3]); n];
     start[rng.below(n)] += 1;
-    if rng.chance(1, 4) {
-        start = starts(rng, n, limit);
+    start
+}
+
+/// The slowest demand that is known, or one a unit or two from it somewhere.
+fn near_slowest(rng: &mut Rng) -> (Vec<u64>, Vec<u64>) {
+    let (d, mut demand) = loop_and_ring();
+    let at = rng.below(SECTORS);
+    demand[at] = (demand[at] + rng.upto(4)).saturating_sub(2).min(DEMAND);
+    (d, demand)
+}
+
+/// A sheet and a start that settle slowly, mostly of 40 sectors. The inverse, with its n columns, has few.
+fn slow_case(rng: &mut Rng) -> Case {
+    let call = rng.of(&[Call::Production, Call::Production, Call::Impact, Call::Price, Call::Price, Call::Inverse]);
+    let budget = rng.of(&[u32::MAX, ENOUGH - 1, ENOUGH, ENOUGH + 1, 1000]);
+    let n = if call == Call::Inverse { 1 + rng.below(13) } else if rng.chance(2, 3) { SECTORS } else { 1 + rng.below(SECTORS) };
+    let limit = if call == Call::Price { RISE } else { DEMAND };
+    let mut given = vec![slow_sheet(rng, n)];
+    if call != Call::Inverse {
+        given.push(slow_start(rng, n, limit));
     }
-    let mut given = vec![d, start];
+    if n == SECTORS && limit == DEMAND && rng.chance(1, 4) {
+        let (d, demand) = near_slowest(rng);
+        given = vec![d, demand];
+    }
     if call == Call::Impact {
         given.push(second_demand(rng, &given[1]));
     }
-    Case { budget: rng.of(&[u32::MAX, 1400, 1000]), ..Case::new(call, n, given) }
+    Case { budget, ..Case::new(call, n, given) }
 }
 
 pub fn case(seed: u64, index: u64) -> Case {
     let mut random = Rng::new(seed, index);
     let rng = &mut random;
     if index % 2_000 == 0 {
-        return long_ring(rng);
+        return slow_case(rng);
     }
     let mut case = match rng.below(134) {
         0..=23 => coefficients_case(rng),

@@ -1,11 +1,13 @@
 //! Differential test: the library, through its C interface, against the paper.
 //!
 //! `differential [cases]` first runs the paper's worked cases, then as many pseudo-random cases
-//! (2,000,000 unless told otherwise), each accepted impact among them against what is promised of it,
-//! then settled amounts against exact balances, and files that are written and read. The seed is fixed
-//! and a case depends on its index alone, so every run is the same.
+//! (2,000,000 unless told otherwise), each accepted impact among them against what is promised of it and
+//! each refusal for too few rounds against its budget, then settled amounts against exact balances, files
+//! that are written and read, and the slowest sheets. The seed is fixed and a case depends on its index
+//! alone, so every run is the same.
 
 mod archives;
+mod budgets;
 mod calls;
 mod exact;
 mod generate;
@@ -13,7 +15,7 @@ mod impacts;
 mod reference;
 mod worked;
 
-use calls::{by_library, by_reference, number_seen, Call, Case, CALLS};
+use calls::{by_library, by_reference, number_seen, Call, Case, Outcome, CALLS};
 use std::process::exit;
 
 const SEED: u64 = 0x7461_7771_6573_6869;
@@ -51,8 +53,7 @@ impl Tally {
         if matches!(case.call, Call::Production | Call::Impact | Call::Price | Call::Inverse) {
             self.most_rounds = self.most_rounds.max(paper.counts[0]);
         }
-        let library = by_library(&case).and_then(|library| impacts::check(&case, &library).map(|()| library));
-        let told = match library {
+        let told = match checked(&case, &paper) {
             Ok(library) if library == paper => return,
             Ok(library) => format!("{name}: paper {paper:?}, library {library:?}"),
             Err(what) => format!("{name}: {what}"),
@@ -85,6 +86,15 @@ impl Tally {
     }
 }
 
+/// What the library gives, if that and what the paper gives keep what is promised.
+fn checked(case: &Case, paper: &Outcome) -> Result<Outcome, &'static str> {
+    budgets::check(case, paper)?;
+    let library = by_library(case)?;
+    budgets::check(case, &library)?;
+    impacts::check(case, &library)?;
+    Ok(library)
+}
+
 /// The worked cases and slips through the reference, and the header's count of questions. Returns how many are wrong.
 fn self_test() -> u64 {
     let mut all = 0;
@@ -114,12 +124,8 @@ fn self_test() -> u64 {
     wrong
 }
 
-fn main() {
-    let cases = match std::env::args().nth(1) {
-        None => CASES,
-        Some(word) => word.parse().expect("the number of cases"),
-    };
-    let wrong = self_test();
+/// The worked cases and as many pseudo-random ones.
+fn compare(cases: u64) -> Tally {
     let mut tally = Tally::new();
     for (name, case, _) in worked::cases() {
         tally.case(name, case);
@@ -138,12 +144,11 @@ fn main() {
             tally.add(thread.join().expect("a thread of the test"));
         }
     });
-    let exact = exact::run(SEED, SHEETS);
-    let archives = archives::run(SEED, TABLES);
+    tally
+}
 
-    for (case, told) in &tally.smallest {
-        println!("{told}\n  {case:?}");
-    }
+/// Tells how often each number was seen. Returns how many never were.
+fn tell_numbers(tally: &Tally) -> u64 {
     let mut unseen = 0;
     for call in CALLS {
         let seen = &tally.seen[call as usize];
@@ -157,6 +162,24 @@ fn main() {
             println!("{}: number {number} was never seen", call.name());
         }
     }
+    unseen
+}
+
+fn main() {
+    let cases = match std::env::args().nth(1) {
+        None => CASES,
+        Some(word) => word.parse().expect("the number of cases"),
+    };
+    let wrong = self_test();
+    let tally = compare(cases);
+    let exact = exact::run(SEED, SHEETS);
+    let archives = archives::run(SEED, TABLES);
+    let slow = budgets::run();
+
+    for (case, told) in &tally.smallest {
+        println!("{told}\n  {case:?}");
+    }
+    let unseen = tell_numbers(&tally);
     println!("most rounds: {}", tally.most_rounds);
     println!(
         "exact balances: {} sheets, {} pairs of demands, {} broken",
@@ -166,8 +189,13 @@ fn main() {
         "archives: {} tables, {} pairs of tables, {} broken",
         archives.tables, archives.pairs, archives.broken
     );
-    let differences =
-        tally.differences + wrong + unseen + (exact.broken + archives.broken) as u64;
+    let [production, impact, price, inverse] = slow.most;
+    println!(
+        "slow sheets: {}, rounds at most: production {production}, impact {impact}, price {price}, inverse {inverse}, {} broken",
+        slow.sheets, slow.broken
+    );
+    let broken = (exact.broken + archives.broken + slow.broken) as u64;
+    let differences = tally.differences + wrong + unseen + broken;
     println!("differential: {} cases, {differences} differences", tally.cases);
     if differences > 0 {
         exit(1);

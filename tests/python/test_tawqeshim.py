@@ -1,5 +1,5 @@
-"""Tests of python/tawqeshim.py: refusals, what it takes as cells and what it does not, what schemes add, its library, the worked table from
-its file to its page, and tables written as files. Tests of numpy and pandas are skipped where these are not installed."""
+"""Tests of python/tawqeshim.py: refusals, what it takes as cells and what it does not, what schemes add, the slowest sheets, its library, the
+worked table from its file to its page, and tables written as files. Tests of numpy and pandas are skipped where these are not installed."""
 import ctypes
 import doctest
 import inspect
@@ -402,6 +402,53 @@ class Schemes(unittest.TestCase):
         for demand in (DEMAND, [0, 0], [2_000_000_000, 1]):
             self.assertEqual(t.impact(DOMESTIC, demand, demand), ([0, 0], t.production(DOMESTIC, demand).rounds))
         self.assertEqual(t.impact(DOMESTIC, DEMAND, DEMAND, 9), ([0, 0], 9))
+
+
+class Budgets(Refusing):
+    """The slowest sheets that are known settle with the default budget."""
+
+    N = 40
+    RING = [[950_000 if i == (j + 1) % 40 else 0 for j in range(40)] for i in range(40)]  # each sector buys from the next alone
+
+    def loop_and_ring(self, outlet, first, nexts, last):
+        """Sector 0 buys from itself and a little from sector 1; the others buy in a ring, and a little from sector 1."""
+        d = [[0] * self.N for _ in range(self.N)]
+        d[0][0], d[1][0], d[1][-1] = 950_000 - outlet, outlet, last
+        for j, cell in enumerate(nexts, 1):
+            d[j + 1][j], d[1][j] = cell, first if j > 1 else 0
+        return d
+
+    def slowest_production(self):
+        first = 2_050
+        d = self.loop_and_ring(1, first, [947_379] * (self.N - 2), 999_999 - first * (self.N - 3))
+        for j in range(1, self.N):
+            d[0][j] = 950_000 - sum(row[j] for row in d)
+        rest = [77_696_537_295, 38_007_651_736] + [38_007_537_295] * (self.N - 2)
+        demand = [amount - sum(map(int.__mul__, row, rest)) // 10**6 for amount, row in zip(rest, d)]
+        demand[1] += 1
+        return d, demand
+
+    def slowest_inverse(self):
+        nexts, amount, first = [], 3_535, 1_370
+        for j in range(1, self.N - 1):
+            cell = 950_000 - (first if j > 1 else 0)
+            while cell * amount % 10**6 < 19 * (10**6 - cell):
+                cell -= 1
+            nexts.append(cell)
+            amount = cell * amount // 10**6
+        return self.loop_and_ring(152, first, nexts, 949_638)
+
+    def test_slowest(self):
+        demand, rises = ([limit - 19] + [limit - 20] * (self.N - 1) for limit in (2 * 10**9, 10**9))
+        slowest, slow_demand = self.slowest_production()
+        for count, call, *given in [(1_189, t.production, self.RING, demand), (1_244, t.production, slowest, slow_demand),
+                                    (1_244, t.impact, slowest, [0] * self.N, slow_demand), (1_175, t.price, self.RING, rises),
+                                    (1_022, t.inverse, self.slowest_inverse())]:
+            with self.subTest(call=call.__name__, count=count):
+                settled = call(*given)
+                self.assertEqual(settled.rounds, count)
+                self.assertEqual(call(*given, count), settled)
+                self.refused(9, 0, call, *given, count - 1)
 
 
 class Files(unittest.TestCase):
