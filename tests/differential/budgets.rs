@@ -3,23 +3,26 @@
 //! and settled; `tests/slow/run` looks for slower ones.
 
 use crate::calls::{by_library, by_reference, number_seen, Call, Case, Outcome};
-use crate::reference::{COLUMN_LIMIT, DEMAND_LIMIT, ONE, RISE_LIMIT, SECTORS};
+use crate::reference::{COLUMN_LIMIT, DEMAND_LIMIT, ONE, PAGE_BUDGET, PRICE_BUDGET, PRODUCTION_BUDGET, RISE_LIMIT, SECTORS};
 
-/// A budget of at least this never refuses.
-pub const ENOUGH: u32 = 1_400;
 const MILLION: u64 = ONE as u64;
 const LIMIT: u64 = COLUMN_LIMIT as u64;
 const N: usize = SECTORS;
 
-/// A case and what one side gives. An error if number 9 comes although the budget is enough; a page has a budget of 1,400.
+/// The budget of a call that always suffices, if the call goes round.
+pub fn enough(call: Call) -> Option<u32> {
+    match call {
+        Call::Production | Call::Impact | Call::Page => Some(PRODUCTION_BUDGET),
+        Call::Price | Call::Inverse => Some(PRICE_BUDGET),
+        _ => None,
+    }
+}
+
+/// A case and what one side gives. An error if number 9 comes although the budget suffices.
 pub fn check(case: &Case, outcome: &Outcome) -> Result<(), &'static str> {
-    let enough = match case.call {
-        Call::Production | Call::Impact | Call::Price | Call::Inverse => case.budget >= ENOUGH,
-        Call::Page => true,
-        _ => false,
-    };
-    if enough && number_seen(case, outcome) == 9 {
-        return Err("number 9 from a budget of 1,400 or more");
+    let budget = if case.call == Call::Page { PAGE_BUDGET } else { case.budget };
+    if enough(case.call).is_some_and(|least| budget >= least) && number_seen(case, outcome) == 9 {
+        return Err("number 9 from a budget that suffices");
     }
     Ok(())
 }
@@ -104,7 +107,8 @@ pub struct Report {
 
 /// One slow sheet: a round less than its count is too few; with its count, 1,400 and any more it settles in that count.
 fn settles(call: Call, given: &[Vec<u64>], count: usize) -> Result<(), String> {
-    for budget in [count as u32 - 1, count as u32, ENOUGH, u32::MAX] {
+    let suffices = enough(call).ok_or("a call without rounds")?;
+    for budget in [count as u32 - 1, count as u32, suffices, u32::MAX] {
         let case = Case { budget, ..Case::new(call, N, given.to_vec()) };
         let paper = by_reference(&case);
         let library = by_library(&case)?;

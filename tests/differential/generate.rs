@@ -1,8 +1,8 @@
 //! Pseudo-random cases: valid, nearly valid and hostile. A case depends on its index alone.
 
-use crate::budgets::{loop_and_ring, ENOUGH};
+use crate::budgets::loop_and_ring;
 use crate::calls::{by_reference, Call, Case, PAGE_BYTES};
-use crate::reference::{self, SECTORS};
+use crate::reference::{self, PRICE_BUDGET, PRODUCTION_BUDGET, SECTORS};
 
 const AMOUNT: u64 = reference::AMOUNT_LIMIT as u64;
 const ONE: u64 = reference::ONE as u64;
@@ -108,13 +108,19 @@ fn strange_cell(rng: &mut Rng) -> u64 {
     }
 }
 
+/// A budget that suffices, one a round from it, or one far larger.
+fn near(rng: &mut Rng, budget: u32) -> u32 {
+    rng.of(&[budget - 1, budget, budget + 1, 2 * budget])
+}
+
 fn budget(rng: &mut Rng) -> u32 {
     match rng.below(12) {
         0 => 0,
         1 => 1 + rng.below(20) as u32,
         2..=4 => u32::MAX,
-        5 => rng.of(&[ENOUGH - 1, ENOUGH + 1, 2 * ENOUGH]),
-        _ => ENOUGH,
+        5 => near(rng, PRODUCTION_BUDGET),
+        6 => near(rng, PRICE_BUDGET),
+        _ => PRODUCTION_BUDGET,
     }
 }
 
@@ -1065,7 +1071,9 @@ fn near_slowest(rng: &mut Rng) -> (Vec<u64>, Vec<u64>) {
 /// A sheet and a start that settle slowly, mostly of 40 sectors. The inverse, with its n columns, has few.
 fn slow_case(rng: &mut Rng) -> Case {
     let call = rng.of(&[Call::Production, Call::Production, Call::Impact, Call::Price, Call::Price, Call::Inverse]);
-    let budget = rng.of(&[u32::MAX, ENOUGH - 1, ENOUGH, ENOUGH + 1, 1000]);
+    let suffices = rng.of(&[PRODUCTION_BUDGET, PRICE_BUDGET]);
+    let around = near(rng, suffices);
+    let budget = rng.of(&[u32::MAX, around, around, 1000]);
     let n = if call == Call::Inverse { 1 + rng.below(13) } else if rng.chance(2, 3) { SECTORS } else { 1 + rng.below(SECTORS) };
     let limit = if call == Call::Price { RISE } else { DEMAND };
     let mut given = vec![slow_sheet(rng, n)];

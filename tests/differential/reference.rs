@@ -18,7 +18,10 @@ pub const FILE_LENGTHS: [usize; 9] = [1600, 40, 40, 40, 40, 40, 40, 40, 47];
 /// "A writer for table files" is lent the bytes of the file; "the adjustment item" makes them 12,883.
 pub const FILE_BYTES: usize = 12_883;
 /// "The printed sheet": the program's budget.
-pub const PAGE_BUDGET: u32 = 1_400;
+pub const PAGE_BUDGET: u32 = PRODUCTION_BUDGET;
+/// Document 02, ticket 5: with these budgets or larger ones every production, and every price and inverse column, settles.
+pub const PRODUCTION_BUDGET: u32 = 1_400;
+pub const PRICE_BUDGET: u32 = 1_400;
 
 /// A refusal: the number of the first question answered no, and its place.
 #[derive(Clone, Copy, Debug, PartialEq, Eq)]

@@ -16,7 +16,6 @@ mod reference;
 use std::process::exit;
 use std::time::{Duration, Instant};
 
-const ENOUGH: u32 = 1_400;
 const MILLION: u64 = reference::ONE as u64;
 const LIMIT: u64 = reference::COLUMN_LIMIT as u64;
 const MOST: u64 = reference::SECTORS as u64;
@@ -42,6 +41,11 @@ impl Kind {
             Kind::Price => reference::RISE_LIMIT as u64,
             Kind::Inverse => MILLION,
         }
+    }
+
+    /// The budget that always suffices.
+    fn enough(self) -> u32 {
+        if self == Kind::Production { reference::PRODUCTION_BUDGET } else { reference::PRICE_BUDGET }
     }
 }
 
@@ -99,7 +103,7 @@ impl Sheet {
     }
 }
 
-/// A count that no sheet can pass. Let the gap of a sector be what it still lacks of its settled amount. At the start no price lacks over
+/// A count that no sheet can pass, by an argument that is not proved; what is proved is 1,400. Let the gap of a sector be what it still lacks of its settled amount. At the start no price lacks over
 /// 19 times the limit, and all productions together no more than 19 times all demands. A round leaves of the largest gap of a price at
 /// most 95 of 100, rounded up; of all gaps of a production together as much and less than a unit for each sector. Besides, it
 /// lowers the sum of gaps by 1, or changes nothing and is the last.
@@ -449,7 +453,7 @@ fn main() {
         let agree = confirmed.is_some_and(|count| count == slowest.count || kind == Kind::Inverse && count > slowest.count);
         let count = confirmed.unwrap_or(slowest.count);
         wrong |= !agree;
-        over |= count > ENOUGH;
+        over |= count > kind.enough();
         println!("{name}: slowest {count} rounds, n {}, {}; none can take over {}", sheet.n, slowest.told(), bound(kind));
         if !agree {
             println!("{name}: the reference gives {confirmed:?}, the search {}", slowest.count);

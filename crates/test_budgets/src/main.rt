@@ -91,4 +91,6 @@ fn main() {
     compare(b"scheme", 1400);
     compare(b"scheme one round short", 1188);
     invert(b"inverse", 1400);
+    invert(b"inverse least budget", 256);
+    invert(b"inverse one round short", 255);
 }
