@@ -28,7 +28,7 @@ use Rattle.theory.proofs.Verdicts.{Passes, asked, single-failed, number-passes,
 use Rattle.theory_rounds.proofs.Answers.{InducedGiven, accepted-induced}
 use Rattle.theory_budgets.proofs.Budgets.{production-settles}
 use Rattle.theory_tables.proofs.Tables.{table-sizes}
-use Rattle.theory_tables.proofs.Prepared.{demands-small, table-accepted, matrix-is-accepted, production-ready, induced-ready}
+use Rattle.theory_tables.proofs.Prepared.{demands-small, table-accepted, matrix-is-accepted, production-accepted, induced-ready}
 use Rattle.theory.proofs.Decimals.{first-digit, decimal-fits, line-fits}
 use Rattle.theory.proofs.Stores.{over-zeros}
 use Rattle.theory_files.proofs.Walks.{reading-holds}
@@ -212,7 +212,7 @@ module _ (t : Table) (some-columns : 1 ≤ length (t .columns)) (few-columns : l
   k = settling n (at n d) f pageBudget
 
   produces : sheets .accepted ≡ true → settlingOf ≡ accepts (k ∷ [])
-  produces ok = production-ready t squares columns ok pageBudget (le-refl pageBudget)
+  produces ok = production-accepted t squares columns ok pageBudget (le-refl pageBudget)
 
   induces : sheets .accepted ≡ true → inducing ≡ accepts []
   induces ok = induced-ready t squares columns ok some-columns pageBudget (ap (λ (r : Report). r .accepted) (produces ok))

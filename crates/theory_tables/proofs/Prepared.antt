@@ -1,5 +1,5 @@
--- What the sheets of an accepted table are good for: production is accepted, and what it settles at is accepted by the calls for induced amounts and,
--- as every production is, for implied demand. Assumes nothing.
+-- What the sheets of an accepted table are good for: production is decided by question 9 alone, so that a budget that always suffices is accepted, and what
+-- it settles at is accepted by the calls for induced amounts and, as every production is, for implied demand. Assumes nothing.
 use mathlib.Core.Path.{_≡_, refl, sym, _∙_}
 use mathlib.Core.Bool.{true}
 use mathlib.Core.List.{List, [], _∷_, _++_}
@@ -11,13 +11,13 @@ use lib.ListN.{length}
 use Rattle.model.specs.Numbers.{one, sum, all, tabulate, cell, at, transposed}
 use Rattle.model.specs.Table.{Table, finalDemand, exports, adjustment, portion, inputCoefficient, valueAddedCoefficient, importCoefficient, domesticCoefficient, domesticDemand}
 use Rattle.model.specs.Rounds.{settling, settled}
-use Rattle.model.specs.Checks.{Check, accepts, size, lengths, bounded, single, settles, demandLimit, productionBudget, amountLimit, columnSums, inducedAmounts, productionLimit, productionTotal, columnLimit}
+use Rattle.model.specs.Checks.{Check, accepts, verdict, size, lengths, bounded, single, settles, demandLimit, productionBudget, amountLimit, columnSums, inducedAmounts, productionLimit, productionTotal, columnLimit}
 use Rattle.model.specs.Calls.{tableChecks, matrixChecks, coefficientsReport, productionReport, inducedReport, inputCoefficients, valueAddedCoefficients, importCoefficients, domesticCoefficients, domesticDemands}
 use Rattle.model.specs.Promises.{AcceptedMatrix, Accurate}
 use Rattle.theory.proofs.Sums.{sum-part}
 use Rattle.theory.proofs.Lists.{length-tabulate, cell-tabulate}
 use Rattle.theory_rounds.proofs.Rounds.{settles-length}
-use Rattle.theory.proofs.Verdicts.{AllPass, accepted-all, all-accepted, all-pass-parts, pass-on, size-passes, lengths-pass, matrix-accepted}
+use Rattle.theory.proofs.Verdicts.{AllPass, accepted-all, single-passed, all-pass-parts, pass-on, size-passes, lengths-pass, matrix-accepted}
 use Rattle.theory_rounds.proofs.Answers.{accepted-settled}
 use Rattle.theory_budgets.proofs.Budgets.{production-settles}
 use Rattle.theory_tables.proofs.Tables.{Accepted, accepted-table, inputs-small, imports-small, value-small, demand-small}
@@ -73,26 +73,36 @@ module _ (t : Table) (matrices lent : List ℕ) (ok : coefficientsReport t matri
         low = λ j h. leb-true (sum (t .sectors) (transposed (at (t .sectors) (domesticCoefficients t)) j)) columnLimit (passes .1 .0 j h);
       }
 
-  -- production of its d and f is accepted, from the budget on that settles every production
-  pub production-ready : (budget : ℕ) → productionBudget ≤ budget
+  -- production of its d and f is never refused with 1, 2, 7 or 8: question 9 alone decides
+  pub production-ready : (budget : ℕ)
+      → let n = t .sectors in
+      let d = domesticCoefficients t in
+      let f = domesticDemands t in
+      productionReport n d f budget (n ∷ n ∷ []) ≡ verdict (single 9 (settles n (at n d) f budget) ∷ []) (settling n (at n d) f budget ∷ [])
+  unfolding productionReport
+  production-ready budget =
+      let n = t .sectors in
+      let d = domesticCoefficients t in
+      let f = domesticDemands t in
+      let k = settling n (at n d) f budget ∷ [] in
+      let last = single 9 (settles n (at n d) f budget) ∷ [] in
+      let slices : all (eqb n) (length f ∷ n ∷ n ∷ []) ≡ true = rw (eq-eqb n (length f) (sym (length-demands t)), eq-eqb n n refl) in
+      pass-on (matrixChecks n d [] (length f ∷ n ∷ n ∷ [])) (bounded 8 0 demandLimit f ∷ last) k
+      (matrix-accepted n d [] (length f ∷ n ∷ n ∷ []) matrix-is-accepted refl slices)
+      ∙ pass-on (bounded 8 0 demandLimit f ∷ []) last k
+      (λ i h. le-leb (cell f i) demandLimit (demands-small t matrices lent table-accepted i (rw (length-demands t) at h)), tt)
+
+  -- so it is accepted with every budget that settles every production
+  pub production-accepted : (budget : ℕ) → productionBudget ≤ budget
       → let n = t .sectors in
       let d = domesticCoefficients t in
       let f = domesticDemands t in
       productionReport n d f budget (n ∷ n ∷ []) ≡ accepts (settling n (at n d) f budget ∷ [])
-  unfolding productionReport
-  production-ready budget h =
-      let n = t .sectors in
-      let d = domesticCoefficients t in
+  production-accepted budget h =
       let f = domesticDemands t in
-      let slots = length f ∷ n ∷ n ∷ [] in
-      let small = demands-small t matrices lent table-accepted in
-      let slices : all (eqb n) slots ≡ true = rw (eq-eqb n (length f) (sym (length-demands t)), eq-eqb n n refl) in
-      let last = bounded 8 0 demandLimit f ∷ single 9 (settles n (at n d) f budget) ∷ [] in
-      pass-on (matrixChecks n d [] slots) last (settling n (at n d) f budget ∷ []) (matrix-accepted n d [] slots matrix-is-accepted refl slices)
-      ∙ all-accepted last (settling n (at n d) f budget ∷ []) (
-        λ i l. le-leb (cell f i) demandLimit (small i (rw (length-demands t) at l)),
-        (λ _ _. le-leb _ budget (production-settles matrix-is-accepted f small budget h), tt),
-      )
+      let k = settling (t .sectors) (at (t .sectors) (domesticCoefficients t)) f budget in
+      production-ready budget
+      ∙ single-passed 9 [] (k ∷ []) (le-leb k budget (production-settles matrix-is-accepted f (demands-small t matrices lent table-accepted) budget h))
 
   -- Theorem, for the reader: document 02, ticket 3, "The accuracy rule now speaks of demands that include G". The production that is settled from an
   -- accepted table's f, here written out, is near every exact balance of that f
