@@ -1,7 +1,7 @@
 -- No page is longer than 2,851 bytes, and none is a refusal with 9, whatever the input. Assumes nothing.
 use mathlib.Core.Bool.{Bool, true, false, not, _&&_, cond}
 use mathlib.Core.List.{List, [], _∷_, _++_, map, append-assoc}
-use mathlib.Core.Path.{_≡_, refl, sym, ap, _∙_}
+use mathlib.Core.Path.{_≡_, refl, sym, ap, subst⁻¹, _∙_}
 use Prim.Native.Nat.{ℕ, zero, suc, _+_, _*_, _/_, _^_, _≤_, _<_, suc-le-suc}
 use native.Mathlib.Nat.{le-refl, zero-lt-suc, not-suc-le-zero, le-step, lt-suc-self, mul-le-mul}
 use native.Mathlib.Omega.{arith}
@@ -225,6 +225,15 @@ module _ (t : Table) (some-columns : 1 ≤ length (t .columns)) (few-columns : l
   unfolding figuresReport
   figures-stop stopped = rw stopped refl
 
+  -- so the page of a table is its sheet, or what refused the sheets: a property of both is one of the page
+  table-page : (P : List ℕ → Type 0) → (sheets .accepted ≡ true → P (pageBy (accepts (k ∷ [])))) → P (refusalLine (sheets .number) (sheets .place)) → P (tablePage t)
+  unfolding tablePage
+  table-page P on stop = split (sheets .accepted) refl
+    where
+      split : (b : Bool) → sheets .accepted ≡ b → P (pageBy (figuresReport t))
+      split true e = subst⁻¹ (λ (r : Report). P (pageBy r)) (figures-on e) (on e)
+      split false e = subst⁻¹ (λ (r : Report). P (pageBy r)) (figures-stop e) stop
+
   figures-fit : sheets .accepted ≡ true → length (pageBy (accepts (k ∷ []))) ≤ pageLimit
   figures-fit ok =
       let a = inputCoefficients t in
@@ -241,12 +250,7 @@ module _ (t : Table) (some-columns : 1 ≤ length (t .columns)) (few-columns : l
       (production-settles (matrix-is-accepted t squares columns ok) f small pageBudget (le-refl pageBudget))
 
   pub table-fits : length (tablePage t) ≤ pageLimit
-  unfolding tablePage
-  table-fits = split (sheets .accepted) refl
-    where
-      split : (b : Bool) → sheets .accepted ≡ b → length (pageBy (figuresReport t)) ≤ pageLimit
-      split true e = rw (figures-on e) (figures-fit e)
-      split false e = rw (figures-stop e) (refusal-fits (sheets .number) (sheets .place) table-near)
+  table-fits = table-page (λ p. length p ≤ pageLimit) figures-fit (refusal-fits (sheets .number) (sheets .place) table-near)
 
   -- the sheets are never refused with 9, and a sheet does not begin as a refusal does
   sheets-number : other (sheets .number) ≡ true
@@ -257,12 +261,9 @@ module _ (t : Table) (some-columns : 1 ≤ length (t .columns)) (few-columns : l
       (counted-pass other 0 amountLimit (t .flows ∷ t .columns) (balanceChecks t) seventh refl refl) refl
 
   pub table-nine : (place : ℕ) → tablePage t ≡ refusalLine 9 place → ⊥
-  unfolding tablePage
-  table-nine place = split (sheets .accepted) refl
-    where
-      split : (b : Bool) → sheets .accepted ≡ b → pageBy (figuresReport t) ≡ refusalLine 9 place → ⊥
-      split true e z = sheet-nine n f y (figuresValue t) (figuresImports t) k place (ap pageBy (sym (figures-on e)) ∙ z)
-      split false e z = refusal-nine (sheets .number) (sheets .place) place sheets-number (ap pageBy (sym (figures-stop e)) ∙ z)
+  table-nine place =
+      table-page (λ p. p ≡ refusalLine 9 place → ⊥) (λ _. sheet-nine n f y (figuresValue t) (figuresImports t) k place)
+      (refusal-nine (sheets .number) (sheets .place) place sheets-number)
 
 -- ---- the page of a file: its own refusals have a number up to 15, and a place up to 12,889
 reading-fits : (r : Reading) → Answered inputLimit r → length (readingPage r) ≤ pageLimit

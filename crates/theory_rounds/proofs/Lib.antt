@@ -1,5 +1,5 @@
 -- Rounds in any direction of a sheet: how they rise and settle, how far settled amounts are from an exact balance, and over
--- these what the papers promise of the calls (Promises).
+-- these what the papers promise of settled amounts (Promises).
 pub mod Gauge
 pub mod Rounds
 pub mod Settling
