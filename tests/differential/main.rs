@@ -95,7 +95,7 @@ fn checked(case: &Case, paper: &Outcome) -> Result<Outcome, &'static str> {
     Ok(library)
 }
 
-/// The worked cases and slips through the reference, and the header's count of questions. Returns how many are wrong.
+/// The worked cases and slips through the reference, and the header's count of questions and budgets. Returns how many are wrong.
 fn self_test() -> u64 {
     let mut all = 0;
     let mut wrong = 0;
@@ -114,11 +114,17 @@ fn self_test() -> u64 {
             println!("{name}: wrong");
         }
     }
-    all += 1;
     let header = include_str!("../../include/tawqeshim.h");
-    if !header.contains(&format!("TAWQESHIM_QUESTIONS = {}\n", reference::QUESTIONS)) {
-        wrong += 1;
-        println!("the header has another last question than {}", reference::QUESTIONS);
+    for line in [
+        format!("TAWQESHIM_QUESTIONS = {}\n", reference::QUESTIONS),
+        format!("TAWQESHIM_PRODUCTION_BUDGET UINT32_C({})", reference::PRODUCTION_BUDGET),
+        format!("TAWQESHIM_PRICE_BUDGET UINT32_C({})", reference::PRICE_BUDGET),
+    ] {
+        all += 1;
+        if !header.contains(&line) {
+            wrong += 1;
+            println!("the header has not: {line}");
+        }
     }
     println!("reference: {all} worked cases, {wrong} wrong");
     wrong

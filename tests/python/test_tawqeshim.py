@@ -450,6 +450,13 @@ class Budgets(Refusing):
                 self.assertEqual(call(*given, count), settled)
                 self.refused(9, 0, call, *given, count - 1)
 
+    def test_defaults(self):
+        header = (ROOT / "include/tawqeshim.h").read_text()
+        for name, budget, calls in [("PRODUCTION", t.PRODUCTION_BUDGET, (t.production, t.impact)), ("PRICE", t.PRICE_BUDGET, (t.price, t.inverse))]:
+            self.assertIn(f"TAWQESHIM_{name}_BUDGET UINT32_C({budget})", header)
+            for call in calls:
+                self.assertEqual(inspect.signature(call).parameters["budget"].default, budget)
+
 
 class Files(unittest.TestCase):
     def test_worked_table(self):
