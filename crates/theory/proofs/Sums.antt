@@ -43,6 +43,14 @@ sum-const (suc n) a = let e = sum-const n a in omega arith
 pub sum-most : (n b : ℕ) {f : ℕ → ℕ} → ((i : ℕ) → i < n → f i ≤ b) → sum n f ≤ n * b
 sum-most n b {f} p = subst (λ (k : ℕ). sum n f ≤ k) (sum-const n b) (sum-mono n {f = f} {g = λ i. b} p)
 
+-- terms that are nowhere lower, and not higher together, are the same
+pub sum-tight : (n : ℕ) {f g : ℕ → ℕ} → ((i : ℕ) → i < n → f i ≤ g i) → sum n g ≤ sum n f → (i : ℕ) → i < n → g i ≡ f i
+sum-tight zero p h = λ i l. absurd (not-suc-le-zero l)
+sum-tight (suc n) {f} {g} p h =
+    let below = sum-mono n {f = f} {g = g} (λ i l. p i (le-step l)) in
+    let last = p n (lt-suc-self n) in
+    upto (sum-tight n {f = f} {g = g} (λ i l. p i (le-step l)) (omega arith)) (omega arith)
+
 pub sum-scale : (n a : ℕ) (f : ℕ → ℕ) → sum n (λ i. a * f i) ≡ a * sum n f
 sum-scale zero a f = omega arith
 sum-scale (suc n) a f = let e = sum-scale n a f in omega arith

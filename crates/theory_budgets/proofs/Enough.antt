@@ -3,34 +3,34 @@
 use mathlib.Core.Path.{_≡_, sym, ap, _∙_, subst⁻¹}
 use mathlib.Core.Bool.{true, not, true≢false}
 use mathlib.Core.List.{List}
-use Prim.Native.Nat.{ℕ, zero, suc, _+_, _*_, _-_, _^_, _≤_, _<_}
+use Prim.Native.Nat.{ℕ, zero, suc, _+_, _*_, _-_, _/_, _^_, _≤_, _<_}
 use native.Mathlib.Omega.{arith}
-use native.Mathlib.Nat.{le-refl, le-step, le-of-suc-le-suc, lt-suc-self, le-trans, le-of-eq, lt-of-not-le, lt-of-le-of-lt, mul-le-mul-left, mul-le-mul-right, le-of-mul-le-mul-left, lt-of-mul-lt-mul-left, mul-one, sub-add-cancel, sub-le, pow-suc, add-zero, add-suc, not-suc-le-zero}
+use native.Mathlib.Nat.{le-refl, le-step, le-of-suc-le-suc, lt-suc-self, le-trans, le-of-eq, lt-of-not-le, lt-of-le-of-lt, mul-le-mul-left, mul-le-mul-right, le-of-mul-le-mul-left, lt-of-mul-lt-mul-left, mul-one, sub-add-cancel, sub-le, pow-suc, add-zero, add-suc}
 use Rattle.model.specs.Numbers.{one, sum, cell}
 use Rattle.model.specs.Rounds.{weighted, rounds, changes, settling, settled, Settles}
 use Rattle.model.specs.Checks.{columnLimit}
-use Rattle.theory.proofs.Sums.{upto, sum-mono, sum-cong, sum-add}
+use Rattle.theory.proofs.Sums.{sum-mono, sum-cong, sum-add, sum-tight}
 use Rattle.theory.proofs.Lists.{All, equal-same}
 use Rattle.theory_rounds.proofs.Gauge.{Gauge}
 use Rattle.theory_rounds.proofs.Rounds.{intermediate-apart, rounds-cell, rising, least, settles-fixed}
 use Rattle.theory_rounds.proofs.Settling.{counted, not-settled}
 use Rattle.theory_rounds.proofs.Accuracy.{rounds-bounded}
 
--- terms that are nowhere lower, and not higher together, are the same
-sum-tight : (n : ℕ) {f g : ℕ → ℕ} → ((i : ℕ) → i < n → f i ≤ g i) → sum n g ≤ sum n f → (i : ℕ) → i < n → g i ≡ f i
-sum-tight zero p h = λ i l. absurd (not-suc-le-zero l)
-sum-tight (suc n) {f} {g} p h =
-    let below = sum-mono n {f = f} {g = g} (λ i l. p i (le-step l)) in
-    let last = p n (lt-suc-self n) in
-    upto (sum-tight n {f = f} {g = g} (λ i l. p i (le-step l)) (omega arith)) (omega arith)
+-- of a gap a round passes on so many millionths, by question 7
+abbrev pub passedOn : ℕ
+passedOn = columnLimit
 
--- a number that falls to 950,000 millionths in each step, but for u: what it has above 20 u falls so too
-decay : (u : ℕ) (e : ℕ → ℕ) → ((k : ℕ) → one * e (suc k) ≤ columnLimit * e k + one * u) → (k : ℕ) → one ^ k * (e k - 20 * u) ≤ columnLimit ^ k * e 0
+-- and so many units of it may stay, since what a round takes of these rounding can add again: 20
+abbrev pub lastUnits : ℕ
+lastUnits = one / (one - passedOn)
+
+-- a number of which each step passes on so much, and u more: what it has above the last units of u falls so too
+decay : (u : ℕ) (e : ℕ → ℕ) → ((k : ℕ) → one * e (suc k) ≤ passedOn * e k + one * u) → (k : ℕ) → one ^ k * (e k - lastUnits * u) ≤ passedOn ^ k * e 0
 decay u e p zero = omega arith
 decay u e p (suc k) =
-    simp pow-suc (step (one ^ k) (columnLimit ^ k) (e k - 20 * u) (e (suc k) - 20 * u) (e 0) (omega (arith, p k)) (decay u e p k))
+    simp pow-suc (step (one ^ k) (passedOn ^ k) (e k - lastUnits * u) (e (suc k) - lastUnits * u) (e 0) (omega (arith, p k)) (decay u e p k))
   where
-    step : (a b f g r : ℕ) → one * g ≤ columnLimit * f → a * f ≤ b * r → a * one * g ≤ b * columnLimit * r
+    step : (a b f g r : ℕ) → one * g ≤ passedOn * f → a * f ≤ b * r → a * one * g ≤ b * passedOn * r
     step a b f g r h l = omega (arith, mul-le-mul-left a h)
 
 module _ (n : ℕ) (c : ℕ → ℕ → ℕ) (s : List ℕ) where
@@ -78,7 +78,7 @@ module _ (n : ℕ) (c : ℕ → ℕ → ℕ) (s : List ℕ) where
       below m i h = least n c s (cell y) (λ j l. le-of-eq (sym (settles-fixed n c σ j l))) m i h
 
       -- of the gap a round leaves what is passed on of it, and what rounding loses
-      gap-falls : (m : ℕ) → one * N (gap (suc m)) ≤ columnLimit * N (gap m) + one * u
+      gap-falls : (m : ℕ) → one * N (gap (suc m)) ≤ passedOn * N (gap m) + one * u
       unfolding gap
       gap-falls m =
           omega (
@@ -100,28 +100,28 @@ module _ (n : ℕ) (c : ℕ → ℕ → ℕ) (s : List ℕ) where
           le-trans (γ .mono (gap 0) (cell y) (λ i h. sub-le (cell y i) (cell (rounds n c s 0) i)))
           (subst⁻¹ (λ (r : List ℕ). N (cell r) ≤ 20 * N (cell s)) (σ .amounts) (rounds-bounded n c N u γ s k))
 
-      gap-small : (m : ℕ) → columnLimit ^ m * (20 * N (cell s)) < one ^ m → sum n (gap m) ≤ 20 * n
+      gap-small : (m : ℕ) → passedOn ^ m * (20 * N (cell s)) < one ^ m → sum n (gap m) ≤ lastUnits * n
       gap-small m h =
-          let few : N (gap m) - 20 * u < 1 =
+          let few : N (gap m) - lastUnits * u < 1 =
           lt-of-mul-lt-mul-left (one ^ m)
           (rw mul-one
-          (lt-of-le-of-lt (decay u (λ r. N (gap r)) gap-falls m) (lt-of-le-of-lt (mul-le-mul-left (columnLimit ^ m) gap-start) h))) in
-          let units : N (gap m) ≤ 20 * u = omega arith in
+          (lt-of-le-of-lt (decay u (λ r. N (gap r)) gap-falls m) (lt-of-le-of-lt (mul-le-mul-left (passedOn ^ m) gap-start) h))) in
+          let units : N (gap m) ≤ lastUnits * u = omega arith in
           le-of-mul-le-mul-left (omega (arith, γ .total (gap m), mul-le-mul-left n units)) some
 
       -- so of 20 n + 1 rounds more one changes no sector
-      not-all : (m : ℕ) → columnLimit ^ m * (20 * N (cell s)) < one ^ m → (budget : ℕ) → m + 20 * n < budget → All (changes n c s) (suc budget) → ⊥
+      not-all : (m : ℕ) → passedOn ^ m * (20 * N (cell s)) < one ^ m → (budget : ℕ) → m + lastUnits * n < budget → All (changes n c s) (suc budget) → ⊥
       unfolding gap
       not-all m h budget room all =
           omega (
             arith,
-            climbs m (suc (20 * n)) (λ j l. all (suc (m + j)) (omega arith)),
-            sum-mono n (below (m + suc (20 * n))),
+            climbs m (suc (lastUnits * n)) (λ j l. all (suc (m + j)) (omega arith)),
+            sum-mono n (below (m + suc (lastUnits * n))),
             sum-cong n (λ j l. sub-add-cancel (below m j l)),
             sum-add n (gap m) (cell (rounds n c s m)),
             gap-small m h,
           )
 
     -- m rounds until the gap is small, and 20 n + 1 more, are enough
-    pub enough : (m : ℕ) → columnLimit ^ m * (20 * N (cell s)) < one ^ m → (budget : ℕ) → m + 20 * n < budget → settling n c s budget ≤ budget
+    pub enough : (m : ℕ) → passedOn ^ m * (20 * N (cell s)) < one ^ m → (budget : ℕ) → m + lastUnits * n < budget → settling n c s budget ≤ budget
     enough m h budget room = within-budget budget (not-all ends m h budget room)

@@ -72,11 +72,11 @@ slices-near n place limit (s ∷ ss) qs k c few more =
     check-near (bounded 3 place limit s) (countedOn (place + length s) (map (bounded 3 0 limit) ss) ++ qs) k (omega arith) (λ _.
     slices-near n (place + length s) limit ss qs k (λ i h. c (suc i) (suc-le-suc h)) (omega arith) more)
 
--- ---- the number that a refusal shows: one of the questions but 9
+-- ---- the number that a refusal shows is that of a question; none is 90 or more
 abbrev other : ℕ → Bool
 other number = not (eqb number 9) && ltb number 90
 
--- its line then has another first digit than that of 9
+-- the line of one that is not 9 has another first digit than that of 9
 refusal-nine : (number place p : ℕ) → other number ≡ true → refusalLine number place ≡ refusalLine 9 p → ⊥
 unfolding refusalLine digits
 refusal-nine number place p e z =
