@@ -2,12 +2,11 @@
 use model::Answer;
 use model::ONE;
 ghost use mathlib.Core.Path.{_≡_};
-ghost use Prim.Native.Nat.{ℕ, _*_, _^_, _<_, _≤_, max};
+ghost use Prim.Native.Nat.{ℕ, _*_, _<_, _≤_, max};
 ghost use lib.ListN.{length, replicate};
 ghost use Rattle.model.specs.Numbers.{at, cell, oriented, transposed};
-ghost use Rattle.model.specs.Table.{portion, share};
 ghost use Rattle.model.specs.Rounds.{intermediate, weighted};
-ghost use Rattle.model.specs.Checks.{amountLimit, output, report};
+ghost use Rattle.model.specs.Checks.{output, report};
 ghost use Rattle.theory_rounds.specs.Bounds.{sumLimit};
 
 // The larger of two counts.
@@ -49,25 +48,6 @@ pub fn copy_cells(src: &[u64], dst: &mut [u64])
     for i in 0..src.len() {
         dst[i] = src[i];
     }
-}
-
-// A part of a whole in millionths, rounded down; 0 where the whole is 0.
-pub fn share_of(part: u64, whole: u64) -> u64
-    requires { ⌜ part ≤ amountLimit ⌝ }
-    ensures { λ r. ⌜ r ≡ share part whole ⌝ }
-{
-    if whole == 0 {
-        return 0;
-    }
-    part * ONE / whole
-}
-
-// The part of an amount that a share in millionths takes, rounded down.
-pub fn portion_of(m: u64, amount: u64) -> u64
-    requires { ⌜ m * amount < 2 ^ 64 ⌝ }
-    ensures { λ r. ⌜ r ≡ portion m amount ⌝ }
-{
-    m * amount / ONE
 }
 
 // The cell in row i and column j; with rows and columns exchanged the one in row j and column i.

@@ -1,7 +1,6 @@
 // Value added and imports that a production induces.
 use cells::fill_zero;
 use cells::intermediate_use;
-use cells::portion_of;
 use checks::check_sizes;
 use checks::matrix_within;
 use checks::next_within;
@@ -9,6 +8,7 @@ use checks::total_within;
 use model::AMOUNT_LIMIT;
 use model::Answer;
 use model::ONE;
+use shares::portion_of;
 ghost use mathlib.Core.List.{[], _∷_, _++_};
 ghost use mathlib.Core.Path.{_≡_};
 ghost use Prim.Native.Nat.{ℕ, _*_, _<_, _≤_};

@@ -4,7 +4,7 @@ use mathlib.Core.Bool.{true}
 use mathlib.Core.List.{List, [], _∷_, map}
 use Prim.Native.Nat.{ℕ, _+_, _*_}
 use Rattle.model.specs.Numbers.{one, tabulate, cell, at, transposed}
-use Rattle.model.specs.Table.{Table, absorption, inputCoefficient, valueAddedCoefficient, importCoefficient, domesticCoefficient, domesticDemand}
+use Rattle.model.specs.Table.{Table, share, absorption, inputCoefficient, valueAddedCoefficient, importCoefficient, domesticCoefficient, domesticDemand}
 use Rattle.model.specs.Rounds.{weighted, intermediate, round, rounds, changes, settling, settled, impliedDemand, unit, inverse, inverseRounds, dispersion, impact, impactRounds}
 use Rattle.model.specs.Checks.{Report, accepts, refuses, output}
 use Rattle.model.specs.Calls.{coefficientsReport, inputCoefficients, valueAddedCoefficients, importCoefficients, domesticCoefficients, domesticDemands, productionReport, priceReport, impliedReport, inverseReport, impactReport}
@@ -179,6 +179,35 @@ adjustedRows =
 pub worked-adjustment : map (λ (r : Row). r .given) adjustedRows ≡ map (λ (r : Row). r .stated) adjustedRows
 unfolding adjustedRows coefficientsReport inputCoefficients valueAddedCoefficients importCoefficients domesticCoefficients domesticDemands absorption inputCoefficient valueAddedCoefficient importCoefficient domesticCoefficient domesticDemand
 worked-adjustment = refl
+
+-- ---- document 02, ticket 6: a, v and m to the nearest millionth
+-- one sector without an adjustment item, by its x, F, E, M, V and X
+abbrev single : (x f e m v p : ℕ) → Table
+single x f e m v p = record { sectors = 1; flows = x ∷ []; columns = (f ∷ []) ∷ (e ∷ []) ∷ (m ∷ []) ∷ (v ∷ []) ∷ (p ∷ []) ∷ (0 ∷ []) ∷ [] }
+
+abbrev sheetsOf : (a v m d f : ℕ) → List (List ℕ)
+sheetsOf a v m d f = (a ∷ []) ∷ (v ∷ []) ∷ (m ∷ []) ∷ (d ∷ []) ∷ (f ∷ []) ∷ []
+
+unfoldable pub nearestRows : List Row
+nearestRows =
+    -- 2 in 3 and 1 in 3. d and f are still rounded down: to the nearest they would be 444,445 and 2
+    coefficientsOf (single 2 1 1 1 1 3) ⊳ (accepts [] leaving sheetsOf 666667 333333 333333 444444 1)
+    -- halves: a and m are 1 in 2,000,000, v is the rest. The complement of m is 999,999; rounded by itself it would be one, and f 2,000,000
+    ∷ coefficientsOf (single 1 1999999 1 1 1999999 2000000) ⊳ (accepts [] leaving sheetsOf 1 1000000 1 0 1999998)
+    -- question 7: a was 950,000 when it was rounded down, and is 950,001
+    ∷ coefficientsOf (single 88161 4640 0 0 4640 92801) ⊳ (refuses 0 7 0 leaving sheetsOf 0 0 0 0 0)
+    -- and here m was 104 and d 950,001
+    ∷ coefficientsOf (single 9501000 500047 0 1047 499000 10000000) ⊳ (accepts [] leaving sheetsOf 950100 49900 105 950000 499994)
+    ∷ []
+
+-- Theorem, for the reader: every case above is answered as stated
+pub worked-nearest : map (λ (r : Row). r .given) nearestRows ≡ map (λ (r : Row). r .stated) nearestRows
+unfolding nearestRows coefficientsReport inputCoefficients valueAddedCoefficients importCoefficients domesticCoefficients domesticDemands absorption inputCoefficient valueAddedCoefficient importCoefficient domesticCoefficient domesticDemand
+worked-nearest = refl
+
+-- Theorem, for the reader: "a share of 2 in 3 is now 666,667"; 1 in 2,000,000, 1 in 2,000,001, and a share in nothing
+pub worked-shares : _≡_ {A = List ℕ} (share 2 3 ∷ share 1 2000000 ∷ share 1 2000001 ∷ share 5 0 ∷ []) (666667 ∷ 1 ∷ 0 ∷ 0 ∷ [])
+worked-shares = refl
 
 -- ---- document 02, ticket 4: what a scheme adds
 abbrev noRise : List (List ℕ)

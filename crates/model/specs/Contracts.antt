@@ -13,13 +13,13 @@ use Rattle.model.specs.Bytes.{Bytes, padded}
 use Rattle.model.specs.Rounds.{settled, Settles, impliedDemand, inducedValueAdded, inducedImports, inverse, dispersion, settling, impact}
 use Rattle.model.specs.Checks.{Report, accepts, verdict, output, reportRead, roundsOf, sectorsOf, bytesOf, tableAmounts, demandLimit, productionBudget, priceBudget}
 use Rattle.model.specs.Calls.{coefficientsReport, inputCoefficients, valueAddedCoefficients, importCoefficients, domesticCoefficients, domesticDemands, productionReport, priceReport, impliedReport, inducedReport, inverseReport, impactReport}
-use Rattle.model.specs.Promises.{Equal, Distinguishes, Accurate, AccuratePrices, Returns, NotAbove, NowhereBelow, Rises}
+use Rattle.model.specs.Promises.{Equal, Distinguishes, Accurate, AccuratePrices, Returns, NotAbove, NowhereBelow, Rises, NearestShares}
 use Rattle.model.specs.File.{Entry, Reading, reading, called, answerOf, flowsRead, columnRead, columnWord, fileLimit}
 use Rattle.model.specs.Writer.{tableEntries, written, fileBytes, writerReport, InForm, returned}
 use Rattle.model.specs.Page.{refusalLine, page, pageLimit, pageReport, pageBytes}
 use Rattle.model.specs.Unadjusted.{NoAdjustment, withoutAdjustment, unadjustedReport, unadjustedDemands, WithoutKind10, unadjustedReading, unadjustedFilePage}
 
--- Sheets from a table t with F, E, M, V and X, by document 01's own formulas, in which there is no G
+-- Sheets from a table t with F, E, M, V and X, by document 01's formulas, in which there is no G
 pub record DerivedUnadjusted (t : Table) (a₀ v₀ m₀ d₀ f₀ : Cells) (r : Report) (a v m d f : Cells) : Type 0 where
   pub answer : r ≡ unadjustedReport t (length a₀ ∷ length d₀ ∷ []) (length v₀ ∷ length m₀ ∷ length f₀ ∷ [])
   pub inputs : a ≡ output r (length a₀) (inputCoefficients t)
@@ -38,8 +38,12 @@ pub record Derived (t : Table) (a₀ v₀ m₀ d₀ f₀ : Cells) (r : Report) (
   pub demands : f ≡ output r (length f₀) (domesticDemands t)
   -- document 02, ticket 3: with G too, f is within the limit of question 8
   pub withinLimit : r .accepted ≡ true → (i : ℕ) → i < t .sectors → cell f i ≤ demandLimit
-  -- and where G is 0, answer and sheets are those of document 01's own formulas
+  -- and where G is 0, answer and sheets are those of document 01's formulas without it
   pub unadjusted : NoAdjustment t → DerivedUnadjusted (withoutAdjustment t) a₀ v₀ m₀ d₀ f₀ r a v m d f
+  -- document 02, ticket 6: "a, v and m to the nearest millionth, halves upward"
+  pub shares : r .accepted ≡ true → NearestShares t a v m
+  -- "so the accuracy rule holds over the new sheets": for every production that d and f settle at
+  pub accurate : r .accepted ≡ true → (k : ℕ) (y : Cells) → Settles (t .sectors) (at (t .sectors) d) f k y → Accurate (t .sectors) d f y
 
 -- Production from a demand f for domestic goods. Demand 3 is `distinct` and `accurate`: an accepted production differs from that of every other
 -- demand, and only from those; and against every exact balance it is nowhere too high, and all sectors together lack less than 20 × n

@@ -3,8 +3,8 @@ use mathlib.Core.Path.{_≡_}
 use mathlib.Core.Logic.{_↔_}
 use Prim.Native.Nat.{ℕ, _+_, _*_, _-_, _≤_, _<_}
 use lib.ListN.{length}
-use Rattle.model.specs.Numbers.{Cells, Sheet, sum, cell, at, transposed, columnSum}
-use Rattle.model.specs.Table.{sectorLimit}
+use Rattle.model.specs.Numbers.{Cells, Sheet, one, sum, cell, at, transposed, columnSum}
+use Rattle.model.specs.Table.{Table, sectorLimit, imports, valueAdded, production, flow, need}
 use Rattle.model.specs.Checks.{columnLimit}
 use Rattle.model.specs.Rounds.{Settles, ExactBalance, shortfall}
 
@@ -67,3 +67,24 @@ pub record Rises (n : ℕ) (s t y z r : Cells) : Type 0 where
   pub each : (i : ℕ) → i < n → added s t i ≤ cell r i
   -- "the total rise is less than 20 × T + 20 × n", with T the total added
   pub total : sum n (cell r) < 20 * sum n (added s t) + 20 * n
+
+-- Document 02, ticket 6: how far k millionths of whole are from part, both taken a million times. Below 0 a difference counts as 0
+abbrev pub deviation : (part whole k : ℕ) → ℕ
+deviation part whole k = (part * one - k * whole) + (k * whole - part * one)
+
+-- s millionths are the share of part in whole
+pub record NearestShare (part whole s : ℕ) : Type 0 where
+  -- "to the nearest millionth": no other number of millionths is nearer
+  pub nearest : (k : ℕ) → deviation part whole s ≤ deviation part whole k
+  -- "halves upward": none that is as near is larger
+  pub halvesUpward : 0 < whole → (k : ℕ) → deviation part whole k ≡ deviation part whole s → k ≤ s
+  -- the share in nothing is 0
+  pub ofNothing : whole ≡ 0 → s ≡ 0
+  -- and no share is over one
+  pub withinOne : s ≤ one
+
+-- "print a, v and m to the nearest millionth, halves upward"
+pub record NearestShares (t : Table) (a v m : Cells) : Type 0 where
+  pub inputs : (i j : ℕ) → i < t .sectors → j < t .sectors → NearestShare (flow t i j) (cell (production t) j) (at (t .sectors) a i j)
+  pub values : (j : ℕ) → j < t .sectors → NearestShare (cell (valueAdded t) j) (cell (production t) j) (cell v j)
+  pub imported : (i : ℕ) → i < t .sectors → NearestShare (cell (imports t) i) (need t i) (cell m i)

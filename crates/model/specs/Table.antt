@@ -1,4 +1,5 @@
--- Document 01, "The table and its units" and "The sheets, all rounded down". A quotient is rounded down, and is 0 where the divisor is 0.
+-- Document 01, "The table and its units" and "The sheets, all rounded down"; document 02, ticket 6, by which a, v and m are to the nearest millionth and
+-- only d and f are still rounded down. A quotient by 0 is 0.
 use mathlib.Core.Bool.{Bool, _&&_}
 use mathlib.Core.List.{List, []}
 use Prim.Native.Nat.{ℕ, _+_, _*_, _-_, _/_}
@@ -55,11 +56,15 @@ module _ (t : Table) where
   abbrev pub adjustedExports : ℕ → ℕ
   adjustedExports i = cell exports i + cell adjustment i
 
--- part of whole, in millionths
-abbrev pub share : ℕ → ℕ → ℕ
-share part whole = part * one / whole
+-- A quotient to the nearest whole number, "halves upward": half a divisor is added and it is rounded down. All is doubled, for odd divisors
+abbrev pub nearest : ℕ → ℕ → ℕ
+nearest a b = (2 * a + b) / (2 * b)
 
--- the part of an amount that a share in millionths takes
+-- part of whole, "to the nearest millionth"
+abbrev pub share : ℕ → ℕ → ℕ
+share part whole = nearest (part * one) whole
+
+-- the part of an amount that a share in millionths takes, rounded down
 abbrev pub portion : ℕ → ℕ → ℕ
 portion m amount = m * amount / one
 

@@ -1,4 +1,5 @@
--- Document 02, ticket 3: "A file without kind 10 means G = 0 and keeps its results". Document 01's own formulas, in which there is no G.
+-- Document 02, ticket 3: "A file without kind 10 means G = 0 and keeps its results". Document 01's formulas, in which there is no G;
+-- a, v and m in them are rounded as ticket 6 has it, for all tables alike.
 use mathlib.Core.Bool.{Bool, _&&_}
 use mathlib.Core.List.{List, [], _∷_, _++_, map}
 use mathlib.Core.Path.{_≡_}

@@ -1,12 +1,12 @@
 // Works out figures that document 001 prints, by the proved calls and leaves, and prints them; docs/OUTSIDE.md sets the two side by side. Its table 3-1 does
 // not balance as printed, so its shares are taken by the leaves, and the calls here but one ask no balance. Shares and the inverse are in millionths.
-use cells::portion_of;
-use cells::share_of;
 use coefficients::coefficients;
 use implied::implied_demand;
 use induced::induced;
 use inverse::inverse;
 use production::production;
+use shares::portion_of;
+use shares::share_of;
 use test_show::show_answer;
 use test_show::show_end;
 use test_show::show_first;

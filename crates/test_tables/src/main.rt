@@ -76,6 +76,40 @@ fn three_sectors(x: &[u64], fin: &[u64], e: &[u64], m: &[u64], v: &[u64], p: &[u
     show_sheets(&a, &values, &shares, &d, &f);
 }
 
+// The same of a table of one sector without an adjustment item, with slices for one.
+fn one_sector(
+    name: &[u8],
+    x: [u64; 1],
+    fin: [u64; 1],
+    e: [u64; 1],
+    m: [u64; 1],
+    v: [u64; 1],
+    p: [u64; 1],
+) {
+    let mut a = [7u64; 1];
+    let mut values = [7u64; 1];
+    let mut shares = [7u64; 1];
+    let mut d = [7u64; 1];
+    let mut f = [7u64; 1];
+    show_word(name);
+    show_answer(coefficients(
+        1,
+        &x,
+        &fin,
+        &e,
+        &m,
+        &v,
+        &p,
+        &[0],
+        &mut a,
+        &mut values,
+        &mut shares,
+        &mut d,
+        &mut f,
+    ));
+    show_sheets(&a, &values, &shares, &d, &f);
+}
+
 // Cuts the columns, one after the other, two amounts each; the exports are as many as are left.
 fn cut(n: usize, x: &[u64], columns: &[u64], g: &[u64]) {
     if columns.len() < 8 {
@@ -197,6 +231,31 @@ fn more_tables() {
     sheets(b"no sectors", 0, [0; 4], [0; 10], [0; 2]);
 }
 
+// Shares to the nearest millionth. d and f are still rounded down, and what an import share leaves is not rounded by itself. By the third share
+// question 7 refuses; rounded down it would be within its limit. In the fourth table an import share rounded down would leave a d over the limit.
+fn nearest_shares() {
+    one_sector(b"two in three", [2], [1], [1], [1], [1], [3]);
+    one_sector(b"halves", [1], [1999999], [1], [1], [1999999], [2000000]);
+    one_sector(
+        b"share just over",
+        [88161],
+        [4640],
+        [0],
+        [0],
+        [4640],
+        [92801],
+    );
+    one_sector(
+        b"imports just enough",
+        [9501000],
+        [500047],
+        [0],
+        [1047],
+        [499000],
+        [10000000],
+    );
+}
+
 fn exports_short() {
     show_word(b"exports short");
     cut(2, &[0; 4], &[0; 9], &[0; 2]);
@@ -223,6 +282,7 @@ fn main() {
     adjusted();
     exporting();
     more_tables();
+    nearest_shares();
     exports_short();
     printed_table();
 }

@@ -1,12 +1,75 @@
--- Shares and what they take. Assumes nothing.
-use Prim.Native.Nat.{ℕ, _≤_}
-use native.Mathlib.Nat.{div-le-of-le-mul, mul-le-mul-right}
+-- Quotients to the nearest, shares, and what shares take. Assumes nothing.
+use mathlib.Core.Path.{_≡_, sym}
+use Prim.Native.Nat.{ℕ, zero, suc, _+_, _*_, _≤_, _<_, zero-le}
+use native.Mathlib.Decide.{decLt}
+use native.Mathlib.Nat.{div-zero, div-le-of-le-mul, mul-div-le, lt-mul-div-succ, mul-le-mul-right, mul-zero, le-refl, le-antisymm}
+use native.Mathlib.Omega.{arith}
 use Rattle.model.specs.Numbers.{one}
-use Rattle.model.specs.Table.{share, portion}
+use Rattle.model.specs.Table.{nearest, share, portion}
+use Rattle.model.specs.Promises.{deviation, NearestShare}
+
+-- taken twice, a quotient to the nearest is at most a divisor too high, and less than a divisor too low
+nearest-above : (a b : ℕ) → 2 * (nearest a b * b) ≤ 2 * a + b
+nearest-above a b = omega (arith, mul-div-le (2 * a + b) (2 * b))
+
+nearest-below : (a b : ℕ) → 0 < b → 2 * a < 2 * (nearest a b * b) + b
+nearest-below a b h = omega (arith, lt-mul-div-succ (2 * a + b) {2 * b} (omega arith))
+
+-- a quotient by 0 is 0
+nearest-zero : (a : ℕ) → nearest a 0 ≡ 0
+nearest-zero a = div-zero (2 * a + 0)
 
 -- a part is at most one of its whole
 pub share-le : (part whole : ℕ) → part ≤ whole → share part whole ≤ one
-share-le part whole h = div-le-of-le-mul whole (mul-le-mul-right one h)
+share-le part zero h = rw (nearest-zero (part * one)) zero-le
+share-le part (suc w) h = omega (arith, nearest-above (part * one) (suc w))
+
+-- ---- document 02, ticket 6: "to the nearest millionth, halves upward"
+module _ (part whole : ℕ) where
+  abbrev s : ℕ
+  s = share part whole
+
+  -- a smaller number of millionths is no nearer, and a larger one is farther
+  smaller : (k : ℕ) → k < s → deviation part whole s ≤ deviation part whole k
+  smaller k h = omega (arith, nearest-above (part * one) whole, mul-le-mul-right whole h)
+
+  larger : 0 < whole → (k : ℕ) → s < k → deviation part whole s < deviation part whole k
+  larger some k h = omega (arith, nearest-below (part * one) whole some, mul-le-mul-right whole h)
+
+  none-nearer : 0 < whole → (k : ℕ) → deviation part whole s ≤ deviation part whole k
+  none-nearer some k = pick (decLt k s) (decLt s k)
+    where
+      pick : Dec (k < s) → Dec (s < k) → deviation part whole s ≤ deviation part whole k
+      pick (yes h) _ = smaller k h
+      pick (no g) (yes h) = omega (arith, larger some k h)
+      pick (no g) (no h) = let e : k ≡ s = omega arith in rw e (le-refl (deviation part whole s))
+
+  none-larger : 0 < whole → (k : ℕ) → deviation part whole k ≡ deviation part whole s → k ≤ s
+  none-larger some k e = pick (decLt s k)
+    where
+      pick : Dec (s < k) → k ≤ s
+      pick (yes h) = omega (arith, e, larger some k h)
+      pick (no h) = omega arith
+
+-- Theorem, for the reader: the share of a part in its whole is the nearest number of millionths, and a half goes upward
+pub share-nearest : (part whole : ℕ) → part ≤ whole → NearestShare part whole (share part whole)
+share-nearest part whole h =
+    record {
+      nearest = from whole;
+      halvesUpward = none-larger part whole;
+      ofNothing = λ e. rw e (nearest-zero (part * one));
+      withinOne = share-le part whole h;
+    }
+  where
+    from : (w k : ℕ) → deviation part w (share part w) ≤ deviation part w k
+    from zero k = rw (mul-zero k, mul-zero (share part 0)) (le-refl (deviation part 0 0))
+    from (suc w) k = none-nearer part (suc w) (omega arith) k
+
+-- Theorem, for the reader: these words leave no other number
+pub nearest-only : (part whole s t : ℕ) → 0 < whole → NearestShare part whole s → NearestShare part whole t → s ≡ t
+nearest-only part whole s t some p q =
+    let e : deviation part whole s ≡ deviation part whole t = le-antisymm (p .nearest t) (q .nearest s) in
+    le-antisymm (q .halvesUpward some s e) (p .halvesUpward some t (sym e))
 
 -- a share takes no more than the whole of an amount
 pub portion-le : (m amount : ℕ) → m ≤ one → portion m amount ≤ amount

@@ -2,3 +2,4 @@
 pub mod Tables
 pub mod Prepared
 pub mod Unadjusted
+pub mod Derived

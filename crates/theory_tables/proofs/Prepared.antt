@@ -20,7 +20,7 @@ use Rattle.theory_rounds.proofs.Rounds.{settles-length}
 use Rattle.theory.proofs.Verdicts.{AllPass, accepted-all, single-passed, all-pass-parts, pass-on, size-passes, lengths-pass, matrix-accepted}
 use Rattle.theory_rounds.proofs.Answers.{accepted-settled}
 use Rattle.theory_budgets.proofs.Budgets.{production-settles}
-use Rattle.theory_tables.proofs.Tables.{Accepted, accepted-table, inputs-small, imports-small, value-small, demand-small}
+use Rattle.theory_tables.proofs.Tables.{Accepted, accepted-table, nearest-shares, inputs-small, demand-small}
 use Rattle.theory_rounds.proofs.Promises.{accurate, settled-total}
 
 -- the lengths of the sheets
@@ -44,13 +44,9 @@ length-demands : (t : Table) → length (domesticDemands t) ≡ t .sectors
 unfolding domesticDemands
 length-demands t = length-tabulate (t .sectors) (domesticDemand t)
 
-values-small : (t : Table) (matrices lent : List ℕ) → Accepted t matrices lent → (j : ℕ) → j < t .sectors → cell (valueAddedCoefficients t) j ≤ one
-unfolding valueAddedCoefficients
-values-small t matrices lent A j h = rw (cell-tabulate (t .sectors) (valueAddedCoefficient t) j h) (value-small t (A .small) (A .balance) j h)
-
 pub demands-small : (t : Table) (matrices lent : List ℕ) → Accepted t matrices lent → (i : ℕ) → i < t .sectors → cell (domesticDemands t) i ≤ demandLimit
 unfolding domesticDemands
-demands-small t matrices lent A i h = rw (cell-tabulate (t .sectors) (domesticDemand t) i h) (demand-small t (A .small) (A .balance) i h)
+demands-small t matrices lent A i h = rw (cell-tabulate (t .sectors) (domesticDemand t) i h) (demand-small t (A .balance) (A .small) i h)
 
 module _ (t : Table) (matrices lent : List ℕ) (ok : coefficientsReport t matrices lent .accepted ≡ true) where
   abbrev seventh : List Check
@@ -135,6 +131,7 @@ module _ (t : Table) (matrices lent : List ℕ) (ok : coefficientsReport t matri
       let F = finalDemand t in
       let columns = length m ∷ length v ∷ length F ∷ length y ∷ n ∷ n ∷ [] in
       let A = table-accepted in
+      let shares = nearest-shares t (A .balance) in
       let slices : all (eqb n) columns ≡ true =
       rw (eq-eqb n (length m) (sym (length-imports t)), eq-eqb n (length v) (sym (length-values t)), eq-eqb n (length F) (sym (A .sizes .columns 0 some-columns)), eq-eqb n (length y) (sym len), eq-eqb n n refl) in
       let squares : all (eqb (n * n)) (length a ∷ []) ≡ true = rw (eq-eqb (n * n) (length a) (sym (length-inputs t))) in
@@ -143,11 +140,11 @@ module _ (t : Table) (matrices lent : List ℕ) (ok : coefficientsReport t matri
         (
           lengths-pass n (length a ∷ []) columns squares slices,
           (
-            λ i h. le-leb (cell a i) one (inputs-small t (A .sizes .some) (A .small) (A .balance) i (rw (length-inputs t) at h)),
+            λ i h. le-leb (cell a i) one (inputs-small t (A .sizes .some) (A .balance) i (rw (length-inputs t) at h)),
             (
-              λ i h. le-leb (cell m i) one (imports-small t (A .small) (A .balance) i (rw (length-imports t) at h)),
+              λ i h. le-leb (cell m i) one (shares .imported i (rw (length-imports t) at h) .withinOne),
               (
-                λ i h. le-leb (cell v i) one (values-small t matrices lent A i (rw (length-values t) at h)),
+                λ i h. le-leb (cell v i) one (shares .values i (rw (length-values t) at h) .withinOne),
                 (
                   λ i h. le-leb (cell F i) amountLimit (A .small .columns 0 i),
                   (λ i h. le-leb (sum (suc i) (cell y)) productionLimit (le-trans (sum-part (suc i) n (cell y) h) total), tt),

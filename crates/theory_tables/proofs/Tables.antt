@@ -1,5 +1,5 @@
 -- What the checks of a table say of it. Assumes nothing.
-use mathlib.Core.Path.{_≡_, refl, ap, ap₂, _∙_}
+use mathlib.Core.Path.{_≡_, refl, ap, ap₂, subst, _∙_}
 use mathlib.Core.Bool.{Bool, true, false}
 use mathlib.Core.List.{List, [], _∷_, _++_, map}
 use Prim.Native.Nat.{ℕ, zero, suc, _+_, _*_, _-_, _/_, _%_, _≤_, _<_, zero-le}
@@ -11,13 +11,14 @@ use lib.ListN.{length, getD, List·getD-eq-default}
 use Rattle.model.specs.Numbers.{one, sum, tabulate, cell, at, matrix, transposed}
 use Rattle.model.specs.Table.{Table, finalDemand, imports, valueAdded, production, adjustedExports, flow, need, portion, inputCoefficient, valueAddedCoefficient, importCoefficient, domesticCoefficient, domesticDemand}
 use Rattle.model.specs.Checks.{size, lengths, bounded, countedOn, amountLimit, demandLimit, tableAmounts, balanceChecks}
-use Rattle.model.specs.Calls.{tableChecks, inputCoefficients, importCoefficients, domesticCoefficients, domesticDemands}
+use Rattle.model.specs.Calls.{tableChecks, inputCoefficients, valueAddedCoefficients, importCoefficients, domesticCoefficients, domesticDemands}
+use Rattle.model.specs.Promises.{NearestShares}
 use Rattle.theory.specs.Slices.{Each, Columns}
 use Rattle.theory_tables.specs.Tables.{TableSizes, TableAmounts}
 use Rattle.theory.proofs.Lists.{cell-tabulate, tabulate-cong}
 use Rattle.theory.proofs.Sums.{sum-cell}
-use Rattle.theory.proofs.Matrices.{place-row, place-column, place-cell}
-use Rattle.theory.proofs.Shares.{share-le, portion-le}
+use Rattle.theory.proofs.Matrices.{place-row, place-column, place-cell, matrix-cell}
+use Rattle.theory.proofs.Shares.{share-nearest, portion-le}
 use Rattle.theory.proofs.Verdicts.{Passes, AllPass, all-pass-parts, sized}
 
 -- every length of a list of slices, and of what follows them
@@ -97,25 +98,24 @@ accepted-table t matrices lent (p, (q, rest)) =
       slices = z .2;
     }
 
--- ---- an accepted table's coefficients are within one, and its demands within their limit
-module _ (t : Table) (a : TableAmounts t) (b : Balanced t) where
-  pub input-small : (i j : ℕ) → i < t .sectors → j < t .sectors → inputCoefficient t i j ≤ one
-  unfolding inputCoefficient
-  input-small i j h l =
-      share-le (flow t i j) (cell (production t) j) (omega (arith, sum-cell (t .sectors) (transposed (flow t) j) i h, b .columns j l))
-
-  pub value-small : (j : ℕ) → j < t .sectors → valueAddedCoefficient t j ≤ one
-  unfolding valueAddedCoefficient
-  value-small j l = share-le (cell (valueAdded t) j) (cell (production t) j) (omega (arith, b .columns j l))
-
-  pub import-small : (i : ℕ) → i < t .sectors → importCoefficient t i ≤ one
-  unfolding importCoefficient
-  import-small i h = share-le (cell (imports t) i) (need t i) (b .covered i h)
+-- ---- an accepted table's shares are to the nearest millionth, and its demands within their limit
+module _ (t : Table) (b : Balanced t) where
+  pub nearest-shares : NearestShares t (inputCoefficients t) (valueAddedCoefficients t) (importCoefficients t)
+  unfolding inputCoefficients inputCoefficient valueAddedCoefficients valueAddedCoefficient importCoefficients importCoefficient
+  nearest-shares =
+      let n = t .sectors in
+      record {
+        inputs = λ i j h l.
+            rw (matrix-cell n (inputCoefficient t) i j h l)
+            (share-nearest (flow t i j) (cell (production t) j) (omega (arith, sum-cell n (transposed (flow t) j) i h, b .columns j l)));
+        values = λ j l. rw (cell-tabulate n (valueAddedCoefficient t) j l) (share-nearest (cell (valueAdded t) j) (cell (production t) j) (omega (arith, b .columns j l)));
+        imported = λ i h. rw (cell-tabulate n (importCoefficient t) i h) (share-nearest (cell (imports t) i) (need t i) (b .covered i h));
+      }
 
   -- with G in it too f is within the limit of question 8: F is within the limit of amounts by 3, and E plus G by 16
-  pub demand-small : (i : ℕ) → i < t .sectors → domesticDemand t i ≤ demandLimit
+  pub demand-small : TableAmounts t → (i : ℕ) → i < t .sectors → domesticDemand t i ≤ demandLimit
   unfolding domesticDemand
-  demand-small i h =
+  demand-small a i h =
       omega (
         arith,
         portion-le (one - importCoefficient t i) (cell (finalDemand t) i) (sub-le one (importCoefficient t i)),
@@ -157,11 +157,9 @@ pub demand-from : (t : Table) {m : List ℕ} → m ≡ importCoefficients t
     → tabulate (t .sectors) (λ i. portion (one - cell m i) (cell (finalDemand t) i) + adjustedExports t i) ≡ domesticDemands t
 demand-from t e = rw e (demand-is t)
 
--- so the cells of a and of m are within one
-pub inputs-small : (t : Table) → 1 ≤ t .sectors → TableAmounts t → Balanced t → (k : ℕ) → k < t .sectors * t .sectors → cell (inputCoefficients t) k ≤ one
-inputs-small t some a b k h =
+-- the cells of a, in their places, are within one
+pub inputs-small : (t : Table) → 1 ≤ t .sectors → Balanced t → (k : ℕ) → k < t .sectors * t .sectors → cell (inputCoefficients t) k ≤ one
+inputs-small t some b k h =
     let n = t .sectors in
-    rw (input-cell t k h) (input-small t a b (k / n) (k % n) (place-row n k some h) (place-column n k some))
-
-pub imports-small : (t : Table) → TableAmounts t → Balanced t → (i : ℕ) → i < t .sectors → cell (importCoefficients t) i ≤ one
-imports-small t a b i h = rw (import-cell t i h) (import-small t a b i h)
+    subst (λ (a : ℕ). a ≤ one) (place-cell n (inputCoefficients t) k)
+    (nearest-shares t b .inputs (k / n) (k % n) (place-row n k some h) (place-column n k some) .withinOne)

@@ -3,7 +3,7 @@ use mathlib.Core.Path.{_∙_}
 use borrow.Author.Needs.{needs}
 use Rattle.model.specs.Checks.{report}
 use Rattle.theory.proofs.Verdicts.{output-from}
-use Rattle.theory_tables.proofs.Unadjusted.{derived}
+use Rattle.theory_tables.proofs.Derived.{derived}
 use Rattle.coefficients.proofs.coefficients.Statement.{statement}
 use Rattle.coefficients.proofs.coefficients.Tie as tie
 

@@ -12,7 +12,7 @@ use Rattle.model.specs.Checks.{Check, report, verdict, columnSums}
 use Rattle.model.specs.Calls.{tableChecks, inputCoefficients, valueAddedCoefficients, importCoefficients, domesticCoefficients, coefficientsReport}
 use Rattle.model.specs.declared.Answer.{Answer}
 use Rattle.theory.proofs.Verdicts.{answered-pass, answered-on, answered-end}
-use Rattle.theory_tables.proofs.Tables.{Accepted, accepted-table, inputs-small, imports-small, domestic-from, demand-from}
+use Rattle.theory_tables.proofs.Tables.{Accepted, accepted-table, nearest-shares, inputs-small, domestic-from, demand-from}
 use Rattle.coefficients.proofs.fill_sheets.Statement.{statement}
 use Rattle.coefficients.proofs.fill_sheets.Tie as tie
 
@@ -87,13 +87,13 @@ fill-inputs-requires : tie.Need-fill-inputs-requires
 fill-inputs-requires c κs =
     let A = passed (c .before) in
     let z = A .sizes in
-    ((z .some, z .few, z .flows, z .columns 4 (lit< tt), A .squares .0), A .small .flows)
+    ((z .some, z .few, z .flows, z .columns 4 (lit< tt), A .squares .0), λ k. (A .small .flows k, A .small .columns 4 k))
 
 fill-shares-requires : tie.Need-fill-shares-requires
 fill-shares-requires c κs =
     let A = passed (c .before .before .before .before .before) in
     let z = A .sizes in
-    ((z .columns 3 (lit< tt), z .columns 4 (lit< tt), A .slices .0), A .small .columns 3)
+    ((z .columns 3 (lit< tt), z .columns 4 (lit< tt), A .slices .0), λ k. (A .small .columns 3 k, A .small .columns 4 k))
 
 fill-import-shares-requires : tie.Need-fill-import-shares-requires
 fill-import-shares-requires c κs =
@@ -122,9 +122,9 @@ finish-requires c κs =
         A .slices .1 .1 .0,
       ),
       (
-        subst⁻¹ (λ (l : List ℕ). (k : ℕ) → k < n * n → cell l k ≤ one) (inputs-are i) (inputs-small t (z .some) (A .small) (A .balance)),
+        subst⁻¹ (λ (l : List ℕ). (k : ℕ) → k < n * n → cell l k ≤ one) (inputs-are i) (inputs-small t (z .some) (A .balance)),
         (
-          subst⁻¹ (λ (l : List ℕ). (k : ℕ) → k < n → cell l k ≤ one) (imports-are i) (imports-small t (A .small) (A .balance)),
+          subst⁻¹ (λ (l : List ℕ). (k : ℕ) → k < n → cell l k ≤ one) (imports-are i) (λ i h. nearest-shares t (A .balance) .imported i h .withinOne),
           λ k. (A .small .columns 0 k, A .small .columns 1 k, A .small .columns 5 k),
         ),
       ),

@@ -1,0 +1,34 @@
+// Quotients by one: a share to the nearest millionth, and the part of an amount that a share takes, rounded down.
+use model::ONE;
+ghost use mathlib.Core.Path.{_≡_};
+ghost use Prim.Native.Nat.{ℕ, _*_, _<_, _≤_};
+ghost use Rattle.model.specs.Table.{nearest, portion, share};
+ghost use Rattle.model.specs.Checks.{amountLimit};
+ghost use Rattle.theory_rounds.specs.Bounds.{quotientLimit};
+
+// A quotient to the nearest whole number, halves upward.
+fn nearest(a: u64, b: u64) -> u64
+    requires { ⌜ (a < quotientLimit) × (0 < b) × (b < quotientLimit) ⌝ }
+    ensures { λ r. ⌜ r ≡ nearest a b ⌝ }
+{
+    (2 * a + b) / (2 * b)
+}
+
+// A part of a whole to the nearest millionth, halves upward; 0 where the whole is 0.
+pub fn share_of(part: u64, whole: u64) -> u64
+    requires { ⌜ (part ≤ amountLimit) × (whole < quotientLimit) ⌝ }
+    ensures { λ r. ⌜ r ≡ share part whole ⌝ }
+{
+    if whole == 0 {
+        return 0;
+    }
+    nearest(part * ONE, whole)
+}
+
+// The part of an amount that a share in millionths takes, rounded down.
+pub fn portion_of(m: u64, amount: u64) -> u64
+    requires { ⌜ m * amount < quotientLimit ⌝ }
+    ensures { λ r. ⌜ r ≡ portion m amount ⌝ }
+{
+    m * amount / ONE
+}
