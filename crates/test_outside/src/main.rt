@@ -202,29 +202,29 @@ fn show_domestic(d: [u64; 9]) {
     show_line(b"domestic coefficients", &d);
 }
 
-// A table in million yen that balances: every amount rounds to the one that table 3-1 prints, and its adjustment item is 3,470.
+// A table in million yen that balances: every amount rounds to the one that table 3-1 prints, and its adjustment item is 3,484.
 const FLOWS: [u64; 9] = [
-    49200,
-    210913,
-    10367,
-    106909,
-    574406,
-    399820,
-    70885,
+    49220,
+    210897,
+    10381,
+    106893,
+    574425,
+    399811,
+    70886,
     426032,
-    942566,
+    942564,
 ];
 
 fn finer_table() {
     show_word(b"finer table, in million yen");
     finer_sheets(
         &FLOWS,
-        &[62022, 1180903, 2909404],
-        &[175289, 1176675, 193119],
-        &[108816, 1577781, 431691],
-        &[171981, 653051, 2757562],
-        &[398975, 1864402, 4110315],
-        &[0, 3470, 0],
+        &[62024, 1180883, 2909405],
+        &[175295, 1176676, 193114],
+        &[108830, 1577763, 431683],
+        &[171988, 653055, 2757562],
+        &[398987, 1864409, 4110318],
+        &[0, 3484, 0],
     );
 }
 
@@ -265,15 +265,15 @@ fn finer_demands(a: [u64; 9], v: [u64; 3], m: [u64; 3], d: [u64; 9], f: [u64; 3]
     show_shares(m, v);
     show_triple(b"demand for domestic goods", f);
     invert(d);
-    induce(b"all", a, v, m, d, [62022, 1180903, 2909404], f);
+    induce(b"all", a, v, m, d, [62024, 1180883, 2909405], f);
     demands(
         a,
         v,
         m,
         d,
-        [50971, 504973, 2734702],
-        [11051, 675930, 174702],
-        [175289, 1176675, 193119],
+        [50969, 504979, 2734698],
+        [11055, 675904, 174707],
+        [175295, 1176676, 193114],
     );
 }
 
