@@ -13,7 +13,7 @@ nearest-above : (a b : ℕ) → 2 * (nearest a b * b) ≤ 2 * a + b
 nearest-above a b = omega (arith, mul-div-le (2 * a + b) (2 * b))
 
 nearest-below : (a b : ℕ) → 0 < b → 2 * a < 2 * (nearest a b * b) + b
-nearest-below a b h = omega (arith, lt-mul-div-succ (2 * a + b) {2 * b} (omega arith))
+nearest-below a b h = omega (arith, lt-mul-div-succ (2 * a + b) {b = 2 * b} (omega arith))
 
 -- a quotient by 0 is 0
 nearest-zero : (a : ℕ) → nearest a 0 ≡ 0
@@ -22,7 +22,11 @@ nearest-zero a = div-zero (2 * a + 0)
 -- a part is at most one of its whole
 pub share-le : (part whole : ℕ) → part ≤ whole → share part whole ≤ one
 share-le part zero h = rw (nearest-zero (part * one)) zero-le
-share-le part (suc w) h = omega (arith, nearest-above (part * one) (suc w))
+share-le part (suc w) h = pick (decLt one (share part (suc w)))
+  where
+    pick : Dec (one < share part (suc w)) → share part (suc w) ≤ one
+    pick (yes l) = omega (arith, h, nearest-above (part * one) (suc w), mul-le-mul-right (suc w) l)
+    pick (no g) = omega arith
 
 -- ---- document 02, ticket 6: "to the nearest millionth, halves upward"
 module _ (part whole : ℕ) where
