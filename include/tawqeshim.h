@@ -5,8 +5,8 @@
  * Link with libtawqeshim.so or with libtawqeshim.a, which scripts/shared-library builds. Both are for x86-64 Linux.
  *
  * A table has n sectors, 1 to 40, counted from 0. Matrices have n * n cells, row by row: the cell of row i and column j is cell i * n +
- * j. Amounts are whole numbers of one money unit. Shares and coefficients are whole millionths: "one" is 1,000,000. Quotients are rounded
- * down.
+ * j. Amounts are whole numbers of one money unit. Shares and coefficients are whole millionths: "one" is 1,000,000. Input coefficients,
+ * value shares and import shares are to the nearest millionth, halves upward; all other quotients are rounded down.
  *
  * Arrays. Each array is a pointer, then its length in cells (of `file` and a page, in bytes). Any lengths, cells, n and budget may be
  * handed over; a wrong length is refused with number 2.
@@ -144,6 +144,9 @@ static inline const char *tawqeshim_question(uint8_t number) {
  * is no part of domestic need, and is whole in f. A table without one has n zeros.
  * Gives input coefficients a and domestic coefficients d, n * n cells each; value shares v, import shares m and the demand for domestic
  * goods f, n cells each. Question 7 is about d.
+ *
+ * a, v and m are to the nearest millionth, halves upward: 2 in 3 are 666,667 millionths, and 1 in 2,000,000 is 1. They are 0 where the
+ * divisor is 0. A column of a and its v need not sum to one. d and f are worked out from the rounded a and m, and are rounded down.
  *
  * TAKE CARE: here v comes BEFORE m. tawqeshim_induced takes m BEFORE v. All are of one type, so the compiler does not see them exchanged.
  * tawqeshim_table_sheets and tawqeshim_sheets_induced, below, go by names instead.

@@ -3,8 +3,9 @@
 Each function is a call of the shared library libtawqeshim.so, whose functions are proved. scripts/shared-library builds it as
 target/libtawqeshim.so of the repository; the environment variable TAWQESHIM_LIBRARY may name another file.
 
-A table has n sectors, 1 to 40, counted from 0. Amounts are whole numbers of one money unit. Shares and coefficients are whole millionths,
-and every quotient is rounded down.
+A table has n sectors, 1 to 40, counted from 0. Amounts are whole numbers of one money unit. Shares and coefficients are whole millionths.
+Input coefficients and the shares of value added and imports are to the nearest millionth, halves upward; every other quotient is rounded
+down.
 
     coefficients             from a table to its sheets: coefficients, shares, and the demand for domestic goods
     production               from a demand for domestic goods to production
@@ -478,6 +479,9 @@ def coefficients(flows: "Matrix", final_demand: "Column", exports: "Column", imp
     flows, final demand, exports and adjustment makes up production and imports, to the unit. As exports, the adjustment is no part of the
     need that imports are divided by, and is whole in the demand for domestic goods.
 
+    The sheets `inputs`, `value_added` and `imports` are to the nearest millionth, halves upward. `domestic` and `demand` are worked out
+    from them and rounded down. Question 7 is about `domestic`.
+
     >>> sheets = coefficients([[100, 400], [300, 600]], [500, 900], [250, 560], [250, 360], [600, 1000], [1000, 2000])
     >>> sheets.imports
     [250000, 200000]
@@ -492,6 +496,11 @@ def coefficients(flows: "Matrix", final_demand: "Column", exports: "Column", imp
     >>> adjusted = coefficients([[100, 400], [300, 600]], [500, 900], [200, 560], [250, 360], [600, 1000], [1000, 2000], [50, 0])
     >>> adjusted == sheets
     True
+
+    2 in 3 and 1 in 3:
+
+    >>> coefficients([2], [1], [0], [0], [1], [3])[:2]
+    ([666667], [333333])
     """
     columns = [_column("final_demand", final_demand), _column("exports", exports), _column("imports", imports),
                _column("value_added", value_added), _column("production", production)]

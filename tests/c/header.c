@@ -1,6 +1,6 @@
 /*
- * Tests of include/tawqeshim.h: its constants against what the library accepts and refuses, the questions' texts, the version, and the
- * functions that go by names. tests/run compiles it as C99 and as C++, with every warning an error.
+ * Tests of include/tawqeshim.h: its constants against what the library accepts and refuses, how shares are rounded, the questions' texts,
+ * the version, and the functions that go by names. tests/run compiles it as C99 and as C++, with every warning an error.
  */
 #include "tawqeshim.h"
 
@@ -73,36 +73,68 @@ static void induce(uint64_t share, uint64_t final_demand) {
     tawqeshim_induced(1, &a, 1, &share, 1, &v, 1, &final_demand, 1, &production, 1, &value, 1, &imports, 1, &number, &place);
 }
 
-/* One sector with exports and an adjustment alone: its a, v, m, d and f. What production leaves of the two is imported. */
+/* One sector: its a, v, m, d and f. */
 static uint64_t sheet_cells[5];
+static void fill(uint64_t x, uint64_t final_demand, uint64_t exports, uint64_t imports, uint64_t value_added, uint64_t production,
+                 uint64_t adjustment) {
+    uint64_t *c = sheet_cells;
+    c[0] = c[1] = c[2] = c[3] = c[4] = 7;
+    tawqeshim_coefficients(1, &x, 1, &final_demand, 1, &exports, 1, &imports, 1, &value_added, 1, &production, 1, &adjustment, 1,
+                           &c[0], 1, &c[1], 1, &c[2], 1, &c[3], 1, &c[4], 1, &number, &place);
+}
+
+/* One sector with exports and an adjustment alone. What production leaves of the two is imported. */
 static void adjust(uint64_t exports, uint64_t adjustment) {
-    uint64_t x = 0, final_demand = 0, imports = 0, production = exports + adjustment;
+    uint64_t imports = 0, production = exports + adjustment;
     if (production > TAWQESHIM_AMOUNT_LIMIT) {
         imports = production - TAWQESHIM_AMOUNT_LIMIT;
         production = TAWQESHIM_AMOUNT_LIMIT;
     }
-    uint64_t *c = sheet_cells;
-    c[0] = c[1] = c[2] = c[3] = c[4] = 7;
-    tawqeshim_coefficients(1, &x, 1, &final_demand, 1, &exports, 1, &imports, 1, &production, 1, &production, 1, &adjustment, 1,
-                           &c[0], 1, &c[1], 1, &c[2], 1, &c[3], 1, &c[4], 1, &number, &place);
+    fill(0, 0, exports, imports, production, production, adjustment);
 }
 
-/* Are these the value share and the demand, and is the rest 0? */
-static int sheets_are(uint64_t value_share, uint64_t demand) {
+static int sheets_are(uint64_t a, uint64_t v, uint64_t m, uint64_t d, uint64_t f) {
     const uint64_t *c = sheet_cells;
-    return c[0] == 0 && c[1] == value_share && c[2] == 0 && c[3] == 0 && c[4] == demand;
+    return c[0] == a && c[1] == v && c[2] == m && c[3] == d && c[4] == f;
+}
+
+/* a, v and m to the nearest millionth, halves upward; d and f rounded down. */
+static void nearest(void) {
+    const uint64_t limit = TAWQESHIM_AMOUNT_LIMIT;
+    fill(2, 1, 2, 2, 1, 3, 0);
+    answers(TAWQESHIM_ACCEPTED, 0, "2 in 3");
+    expect(sheets_are(666667, 333333, 666667, 222222, 2), "2 in 3 or 1 in 3 is not the nearest");
+    fill(1, 1999999, 1, 1, 1999999, 2000000, 0);
+    answers(TAWQESHIM_ACCEPTED, 0, "1 in 2,000,000");
+    expect(sheets_are(1, 1000000, 1, 0, 1999998), "a half is not rounded upward");
+    fill(1, 2000000, 1, 1, 2000000, 2000001, 0);
+    expect(sheets_are(0, 1000000, 0, 0, 2000001), "less than a half is rounded upward");
+    fill(500, limit - 500, 500, 500, limit - 500, limit, 0);
+    expect(sheets_are(1, 1000000, 1, 0, 999999000), "a half of amounts at their limit");
+    fill(950300, 49000, 1015, 315, 49700, 1000000, 0);
+    expect(sheets_are(950300, 49700, 315, 950000, 49999), "d or f is not rounded down");
+    fill(1900002, 99998, 1, 1, 99998, 2000000, 0);
+    expect(sheets_are(950001, 49999, 1, 950000, 99998), "d or f is not by one less the rounded m");
+
+    /* Near the limit of a column sum: 950,000.54 is over it; with an import share of 104.69, which is 105, the sum is within it. */
+    fill(88161, 4640, 0, 0, 4640, 92801, 0);
+    answers(TAWQESHIM_REFUSED_COLUMN_SUM, 0, "a column sum that is rounded over its limit");
+    expect(sheets_are(0, 0, 0, 0, 0), "a sheet that is refused with 7 is not 0");
+    fill(9501000, 500047, 0, 1047, 499000, 10000000, 0);
+    answers(TAWQESHIM_ACCEPTED, 0, "a column sum within its limit by a rounded import share");
+    expect(sheets_are(950100, 49900, 105, 950000, 499994), "the sheets of a column sum at its limit");
 }
 
 static void limits(void) {
     const uint64_t limit = TAWQESHIM_AMOUNT_LIMIT;
     adjust(limit - 1, 1);
     answers(TAWQESHIM_ACCEPTED, 0, "exports and adjustment at their limit");
-    expect(sheets_are(TAWQESHIM_ONE, limit), "the adjustment is not whole in the demand");
+    expect(sheets_are(0, TAWQESHIM_ONE, 0, 0, limit), "the adjustment is not whole in the demand");
     adjust(0, limit);
     answers(TAWQESHIM_ACCEPTED, 0, "an adjustment at its limit");
     adjust(limit, 1);
     answers(TAWQESHIM_REFUSED_EXPORTS, 0, "exports and adjustment over their limit");
-    expect(sheets_are(0, 0), "a sheet that is refused with 16 is not 0");
+    expect(sheets_are(0, 0, 0, 0, 0), "a sheet that is refused with 16 is not 0");
     adjust(0, limit + 1);
     answers(TAWQESHIM_REFUSED_AMOUNT, 6, "an adjustment over its limit");
     produce(TAWQESHIM_COLUMN_LIMIT, 1);
@@ -324,10 +356,11 @@ int main(void) {
     expect(strcmp(tawqeshim_version, TAWQESHIM_VERSION) == 0, "the library is of another version");
     questions();
     limits();
+    nearest();
     sizes();
     files();
     by_names();
     if (failures == 0)
-        printf("header: constants, questions and names as the library has them\n");
+        printf("header: constants, questions, rounding and names as the library has them\n");
     return failures != 0;
 }

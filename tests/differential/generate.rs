@@ -655,11 +655,96 @@ fn outflow_table(rng: &mut Rng, n: usize) -> Table {
     table
 }
 
+/// A unit more or less in a table that balances, so that it still does: in x or in M, or in the whole that one of them is divided by.
+fn move_unit(rng: &mut Rng, n: usize, table: &mut Table) {
+    let (i, j) = (rng.spot(n), rng.spot(n));
+    let (more, less) = match rng.below(4) {
+        0 => (vec![(0, i * n + j)], vec![(FINAL, i), (VALUE, j)]),
+        1 => (vec![(IMPORTS, i), (EXPORTS, i)], vec![]),
+        2 => (vec![(FINAL, i)], vec![(EXPORTS, i)]),
+        _ => (vec![(OUTPUT, i), (VALUE, i), (EXPORTS, i)], vec![]),
+    };
+    let (more, less) = if rng.chance(1, 2) { (more, less) } else { (less, more) };
+    if less.iter().all(|(slice, at)| table[*slice][*at] > 0) {
+        more.into_iter().for_each(|(slice, at)| table[slice][at] += 1);
+        less.into_iter().for_each(|(slice, at)| table[slice][at] -= 1);
+    }
+}
+
+/// A table whose a, v and m are whole or half millionths, and then some of them just below or above that. X and domestic need are the same
+/// in every sector, 128 × 5^k steps with k at most 6: an odd number of steps is an odd number of half millionths of that whole.
+fn halved_table(rng: &mut Rng, n: usize) -> Table {
+    let mut table = zero_table(n);
+    let steps = 128 * 5_u64.pow(rng.upto(6) as u32);
+    let step = 1 + rng.magnitude(AMOUNT / steps - 1);
+    let whole = step * steps;
+    for cell in &mut table[0] {
+        *cell = step * rng.upto(steps / n as u64);
+    }
+    for i in 0..n {
+        let imports = step * rng.upto(steps);
+        table[FINAL][i] = whole - row_sum(&table, n, i);
+        table[IMPORTS][i] = imports;
+        table[ADJUSTMENT][i] = if rng.chance(1, 4) { rng.upto(imports) } else { 0 };
+        table[EXPORTS][i] = imports - table[ADJUSTMENT][i];
+        table[VALUE][i] = whole - column_sum(&table, n, i);
+        table[OUTPUT][i] = whole;
+    }
+    for _ in 0..rng.upto(2 * n as u64) {
+        move_unit(rng, n, &mut table);
+    }
+    table
+}
+
+/// Chooses V and F so that a table with X, M, E and G balances.
+fn close(n: usize, table: &mut Table) {
+    for i in 0..n {
+        table[VALUE][i] = table[OUTPUT][i] - column_sum(table, n, i);
+        table[FINAL][i] = table[OUTPUT][i] + table[IMPORTS][i] - outflow(table, i) - row_sum(table, n, i);
+    }
+}
+
+/// A table in which a column sum of d is 950,000 or a few millionths from it: a cell of x is the largest with which the table is accepted,
+/// a unit less, or one or two more.
+fn limit_table(rng: &mut Rng, n: usize) -> Table {
+    let mut table = zero_table(n);
+    // Every unit of x is half a millionth of 2,000,000.
+    let whole = rng.of(&[100_000, 1_000_000, 2_000_000, 2_000_000, 4_000_000, AMOUNT]);
+    let below = rng.of(&[0, whole / 500]);
+    let (i, j, sectors) = (rng.spot(n), rng.spot(n), n as u64);
+    for (at, cell) in table[0].iter_mut().enumerate() {
+        *cell = rng.upto(if at % n == j { whole / (2 * sectors) } else { whole / (100 * sectors) });
+    }
+    for k in 0..n {
+        let imports = if rng.chance(1, 3) { 0 } else { rng.magnitude(whole / 50) };
+        table[OUTPUT][k] = whole - rng.upto(below);
+        table[IMPORTS][k] = imports;
+        table[EXPORTS][k] = rng.upto(imports);
+        table[ADJUSTMENT][k] = if rng.chance(1, 4) { rng.upto(imports - table[EXPORTS][k]) } else { 0 };
+    }
+    let at = i * n + j;
+    table[0][at] = 0;
+    // Accepted with the least. Refused with the most: 98 in 100 of production are bought, of which at most 21 in 1,000 are imported.
+    let (mut least, mut most) = (0, table[OUTPUT][j] / 100 * 98 - column_sum(&table, n, j));
+    while most - least > 1 {
+        let middle = (least + most) / 2;
+        table[0][at] = middle;
+        close(n, &mut table);
+        let accepted = by_reference(&Case::new(Call::Coefficients, n, table.clone())).number == 0;
+        if accepted { least = middle } else { most = middle }
+    }
+    table[0][at] = (least + rng.upto(3)).saturating_sub(1);
+    close(n, &mut table);
+    table
+}
+
 fn table(rng: &mut Rng, n: usize) -> Table {
-    match rng.below(9) {
+    match rng.below(10) {
         0 => pressed_table(rng, n),
         1 => capped_table(rng, n),
         2 => outflow_table(rng, n),
+        3 => halved_table(rng, n),
+        4 if n <= 6 => limit_table(rng, n),
         _ => drawn_table(rng, n),
     }
 }

@@ -187,7 +187,8 @@ fn question_17(before: &[u64], after: &[u64]) -> Asked {
 }
 
 // ---------------------------------------------------------------------------------------------
-// "The table and its units", "The sheets, all rounded down"
+// "The table and its units", "The sheets, all rounded down", "Coefficients to the nearest millionth" (document 02, ticket 6): a, v and m
+// are to the nearest millionth, d and f are rounded down.
 // ---------------------------------------------------------------------------------------------
 
 /// Domestic need: the sum over j of x(i,j), plus F(i); exports and the adjustment are not in it.
@@ -195,9 +196,15 @@ fn domestic_need(n: usize, x: &[u64], final_demand: &[u64], i: usize) -> u128 {
     total(row_of(x, n, i)) + u128::from(final_demand[i])
 }
 
-/// An amount as millionths of a whole, rounded down; 0 where the whole is 0.
+/// An amount as millionths of a whole, "to the nearest millionth, halves upward"; 0 where the whole is 0.
 fn share(amount: u64, whole: u128) -> u128 {
-    if whole == 0 { 0 } else { u128::from(amount) * ONE / whole }
+    if whole == 0 {
+        return 0;
+    }
+    let parts = u128::from(amount) * ONE;
+    let (below, rest) = (parts / whole, parts % whole);
+    // What is left over is at least half a millionth if twice the rest is at least the whole.
+    if 2 * rest >= whole { below + 1 } else { below }
 }
 
 /// Sheets from a table: a, v, m, d, f. Asks 1 to 3, 16, 4 to 7.
@@ -257,6 +264,7 @@ pub fn coefficients(
     for i in 0..n {
         m[i] = cell(share(imports[i], domestic_need(n, x, final_demand, i)));
     }
+    // "d, f, the rounds and the induced amounts still round down."
     for i in 0..n {
         for j in 0..n {
             d[i * n + j] = cell((ONE - u128::from(m[i])) * u128::from(a[i * n + j]) / ONE);

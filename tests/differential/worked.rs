@@ -1,6 +1,6 @@
 //! The paper's worked cases P1 to P12, its slips and its printed sheet, with the paper's numbers; files
-//! that name one cell or all; the worked table written as a file; tables with an adjustment; and what
-//! schemes add.
+//! that name one cell or all; the worked table written as a file; tables with an adjustment; what schemes
+//! add; and shares to the nearest millionth.
 
 use crate::calls::{Call, Case, Outcome, PAGE_BYTES};
 use crate::reference::{self, Refusal, AMOUNT_LIMIT, FILE_BYTES, ONE};
@@ -130,6 +130,8 @@ pub fn cases() -> Vec<(&'static str, Case, Outcome)> {
     cases.extend(writer_cases());
     cases.extend(adjustment_cases());
     cases.extend(impact_cases());
+    cases.extend(nearest_cases());
+    cases.extend(nearest_pages());
     cases
 }
 
@@ -297,6 +299,80 @@ fn adjustment_cases() -> Vec<(&'static str, Case, Outcome)> {
     cases
 }
 
+// Tables of one sector, without an adjustment: x, F, E, M, V, X. In most of them exports are as large as imports, so that domestic need
+// is X.
+const TWO_IN_THREE: [u64; 6] = [2, 1, 2, 2, 1, 3];
+/// 1 in 2,000,000 is exactly half a millionth.
+const HALVES: [u64; 6] = [1, 1_999_999, 1, 1, 1_999_999, 2_000_000];
+/// a is 950,000.54, to the nearest over the column limit.
+const OVER: [u64; 6] = [88_161, 4_640, 0, 0, 4_640, 92_801];
+/// m is 104.69, and to the nearest 105, with which d is within the column limit. The need is 10,001,047.
+const WITHIN: [u64; 6] = [9_501_000, 500_047, 0, 1_047, 499_000, 10_000_000];
+/// d is 950,000.66, and f without exports 48,984.57.
+const STILL_DOWN: [u64; 6] = [950_300, 49_000, 1_015, 315, 49_700, 1_000_000];
+/// One less half a millionth lies between 999,999 and 1,000,000.
+const COMPLEMENT: [u64; 6] = [1_900_002, 99_998, 1, 1, 99_998, 2_000_000];
+
+const WITHIN_PRINTED: &str = "sector demand production value imports\n\
+                              1 499994 9999861 498993 1050\n\
+                              rounds 268\n";
+
+fn one_sector(amounts: [u64; 6]) -> Case {
+    let mut given: Vec<Vec<u64>> = amounts.iter().map(|amount| vec![*amount]).collect();
+    given.push(vec![0]);
+    Case::new(Call::Coefficients, 1, given)
+}
+
+/// "Coefficients to the nearest millionth": a, v, m, d and f by hand.
+fn nearest_cases() -> Vec<(&'static str, Case, Outcome)> {
+    let mut cases = Vec::new();
+    for (name, amounts, [a, v, m, d, f]) in [
+        ("2 in 3 and 1 in 3", TWO_IN_THREE, [666_667, 333_333, 666_667, 222_222, 2]),
+        ("exactly a half", HALVES, [1, 1_000_000, 1, 0, 1_999_998]),
+        ("just below a half", [1, 2_000_000, 1, 1, 2_000_000, 2_000_001], [0, 1_000_000, 0, 0, 2_000_001]),
+        ("just above a half", [1, 1_999_998, 1, 1, 1_999_998, 1_999_999], [1, 999_999, 1, 0, 1_999_997]),
+        ("1 in 128", [1, 127, 1, 1, 127, 128], [7_813, 992_188, 7_813, 7_751, 127]),
+        ("a half at the limit", [500, LIMIT - 500, 500, 500, LIMIT - 500, LIMIT], [1, 1_000_000, 1, 0, 999_999_000]),
+        ("below a half at the limit", [499, LIMIT - 499, 499, 499, LIMIT - 499, LIMIT], [0, 1_000_000, 0, 0, LIMIT]),
+        ("within by the nearest m", WITHIN, [950_100, 49_900, 105, 950_000, 499_994]),
+        ("d and f rounded down", STILL_DOWN, [950_300, 49_700, 315, 950_000, 49_999]),
+        ("one less m", COMPLEMENT, [950_001, 49_999, 1, 950_000, 99_998]),
+        ("no production, no need", [0; 6], [0; 5]),
+    ] {
+        cases.push((name, one_sector(amounts), accepted(0, &[&[a], &[v], &[m], &[d], &[f]])));
+    }
+    let over = one_sector(OVER);
+    let seven = refused(&over, 7, 0);
+    cases.push(("over by the nearest a", over, seven));
+    // Both cells of the first column are half a millionth over, and together they are over one.
+    let columns = [[1, 999_999], [1_100_000, 200_000], [100_000, 200_000], [0, 2_000_000], [2_000_000, 2_000_000], [0, 0]];
+    let mut given = vec![vec![999_999, 0, 1_000_001, 0]];
+    given.extend(columns.map(|column| column.to_vec()));
+    let (a, d) = ([500_000, 0, 500_001, 0], [450_000, 0, 450_000, 0]);
+    let sheets: [&[u64]; 5] = [&a, &[0, 1_000_000], &[100_000, 100_000], &d, &[1_100_000, 1_099_999]];
+    cases.push(("inputs over one", Case::new(Call::Coefficients, 2, given), accepted(0, &sheets)));
+    cases
+}
+
+/// The pages of the table that is over by its nearest a, and of the one that is within by its nearest m.
+fn nearest_pages() -> Vec<(&'static str, Case, Outcome)> {
+    let page = |name, amounts: [u64; 6], page: &str| {
+        let mut file = vec![1, 1];
+        for (kind, amount) in (2..).zip(amounts) {
+            file.push(kind);
+            file.extend(if kind == 2 { &[1, 1][..] } else { &[1] });
+            file.extend((amount as u32).to_be_bytes());
+        }
+        file.push(8);
+        let printed = Outcome::in_bytes(PAGE_BYTES, Ok(page.as_bytes().to_vec()));
+        (name, Case::of_file(Call::Page, file), printed)
+    };
+    vec![
+        page("the page of a table over", OVER, "refused 7 0\n"),
+        page("the page of a table within", WITHIN, WITHIN_PRINTED),
+    ]
+}
+
 /// "How many cells were named", of 40 sectors: each cell alone, named as 0, and then all of them.
 fn named_cases() -> Vec<(&'static str, Case, Outcome)> {
     let sectors = 1..=40;
@@ -454,10 +530,43 @@ pub fn slips() -> Vec<(&'static str, bool)> {
     let count = |demand: &[u64]| reference::settle(2, &D, demand, 1400).map_or(0, |(_, count)| count);
     slips.push(("the counts added", count(&F) + count(&more) == 19 && right));
 
+    slips.extend(nearest_slips());
     slips.push(("91 bytes", file().len() == 91));
     slips.push(("the printed sheet", reference::page(&file()) == PRINTED.as_bytes()));
     slips.push(("the empty page", reference::page(&[]) == b"refused 15 0\n"));
     slips
+}
+
+/// Shares in another rounding, and d, f or one less m to the nearest too.
+fn nearest_slips() -> Vec<(&'static str, bool)> {
+    let one = ONE as u64;
+    let sheets = |amounts: [u64; 6]| {
+        let [x, f, e, m, v, output] = amounts.map(|amount| [amount]);
+        let given = reference::coefficients(1, &x, &f, &e, &m, &v, &output, &[0], &[1; 5]);
+        given.map(|given| given.cells.concat()).map_err(|no| (no.number, no.place))
+    };
+    let half_down = |part: u64, whole: u64| (2 * part * one + whole - 1) / (2 * whole);
+    let (down, up) = (|part: u64, whole: u64| part * one / whole, |part: u64, whole: u64| (part * one).div_ceil(whole));
+    let nearest = |amount: u64| (amount + one / 2) / one;
+
+    let halves = half_down(1, 2_000_000) == 0 && half_down(1_999_999, 2_000_000) == 999_999;
+    let thirds = sheets(TWO_IN_THREE) == Ok(vec![666_667, 333_333, 666_667, 222_222, 2]);
+    let over = sheets(OVER) == Err((7, 0));
+    let within = sheets(WITHIN) == Ok(vec![950_100, 49_900, 105, 950_000, 499_994]);
+    let still = sheets(STILL_DOWN) == Ok(vec![950_300, 49_700, 315, 950_000, 49_999]);
+    let complement = sheets(COMPLEMENT) == Ok(vec![950_001, 49_999, 1, 950_000, 99_998]);
+    let by_itself = nearest(one * one - one / 2);
+    vec![
+        ("halves downward", halves && sheets(HALVES) == Ok(vec![1, 1_000_000, 1, 0, 1_999_998])),
+        ("halves downward, a column over", (one - half_down(1, 2_000_000)) * 950_001 / one == 950_001 && complement),
+        ("rounded down", down(2, 3) == 666_666 && thirds),
+        ("rounded down, a column within", down(88_161, 92_801) == 950_000 && over),
+        ("rounded down, a column over", (one - down(1_047, 10_001_047)) * 950_100 / one == 950_001 && within),
+        ("rounded up", up(1, 3) == 333_334 && thirds),
+        ("d to the nearest too", nearest(999_685 * 950_300) == 950_001 && still),
+        ("f to the nearest too", nearest(999_685 * 49_000) + 1_015 == 50_000 && still),
+        ("one less m by itself", by_itself == one && by_itself * 950_001 / one == 950_001 && complement),
+    ]
 }
 
 /// The page's case for the library.

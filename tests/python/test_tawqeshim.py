@@ -1,8 +1,10 @@
-"""Tests of python/tawqeshim.py: refusals, what it takes as cells and what it does not, what schemes add, the slowest sheets, its library, the
-worked table from its file to its page, and tables written as files. Tests of numpy and pandas are skipped where these are not installed."""
+"""Tests of python/tawqeshim.py: refusals, what it takes as cells and what it does not, how shares are rounded, what schemes add, the
+slowest sheets, its library, the worked table from its file to its page, and tables written as files. Tests of numpy and pandas are skipped
+where these are not installed."""
 import ctypes
 import doctest
 import inspect
+import math
 import os
 import pickle
 import pydoc
@@ -377,6 +379,68 @@ class Pandas(Given):
         self.sheet_not_taken(TypeError, r"domestic\[0\]\[0\] is 'agriculture', not a whole number$",
                              pandas.DataFrame([["agriculture", 1], ["industry", 2]]))
         self.sheet_not_taken(ValueError, "domestic has 2 rows of 3 cells", pandas.DataFrame([[0, 0, 0], [0, 0, 0]]))
+
+
+class Shares(Refusing):
+    """Input coefficients, value shares and import shares to the nearest millionth, halves upward; the rest rounded down."""
+
+    OVER = [88_161], [4_640], [0], [0], [4_640], [92_801]  # a is 950,000.54
+    WITHIN = [9_501_000], [500_047], [0], [1_047], [499_000], [10_000_000]  # m is 104.69
+
+    def nearest(self, part, whole):
+        return math.floor(Fraction(part * 10**6, whole) + Fraction(1, 2))
+
+    def parts(self, whole):
+        """Parts of a whole: all of a small one; of a large one some, and those beside halves of a millionth."""
+        if whole <= 1280:
+            return range(whole + 1)
+        some = {0, 1, 2, whole // 3, whole // 2, whole - 1, whole}
+        for k in (0, 1, 333_333, 500_000, 949_999, 950_000, 999_999):
+            at = (2 * k + 1) * whole // (2 * 10**6)
+            some |= {at - 1, at, at + 1}
+        return sorted(part for part in some if 0 <= part <= whole)
+
+    def test_nearest(self):
+        halves = 0
+        for whole in (1, 2, 3, 6, 7, 128, 129, 640, 1280, 92_801, 10**6, 1_999_999, 2 * 10**6, 2_000_001, 2**27, 999_999_999, 10**9):
+            for part in self.parts(whole):
+                rest = whole - part
+                a, v = self.nearest(part, whole), self.nearest(rest, whole)
+                d, f = (10**6 - a) * a // 10**6, (10**6 - a) * rest // 10**6 + part  # the import share is a, too
+                self.assertEqual(t.coefficients([part], [rest], [part], [part], [rest], [whole]), ([a], [v], [a], [d], [f]))
+                halves += Fraction(part * 10**6, whole).denominator == 2
+        self.assertGreater(halves, 500)
+
+    def test_one_share(self):
+        for part, whole, share in [(2, 3, 666_667), (1, 3, 333_333), (1, 128, 7_813), (1, 1_999_999, 1), (1, 2_000_000, 1),
+                                   (1, 2_000_001, 0)]:
+            self.assertEqual(self.nearest(part, whole), share)
+            rest = whole - part
+            self.assertEqual(t.coefficients([part], [rest], [0], [0], [rest], [whole]).inputs, [share])
+            self.assertEqual(t.coefficients([0], [whole], [part], [part], [whole], [whole]).imports, [share])
+            self.assertEqual(t.coefficients([rest], [whole], [0], [rest], [part], [whole]).value_added, [share])
+        self.assertEqual(t.coefficients([0], [0], [0], [0], [0], [0]), ([0], [0], [0], [0], [0]))
+
+    def test_domestic_and_demand_are_rounded_down(self):
+        # 950,000.6555 and 48,984.565 without exports
+        sheets = t.coefficients([950_300], [49_000], [1_015], [315], [49_700], [1_000_000])
+        self.assertEqual(sheets, ([950_300], [49_700], [315], [950_000], [49_999]))
+        # half a millionth is imported: 999,999 are left, not 1,000,000
+        sheets = t.coefficients([1_900_002], [99_998], [1], [1], [99_998], [2_000_000])
+        self.assertEqual(sheets, ([950_001], [49_999], [1], [950_000], [99_998]))
+
+    def test_a_column_of_inputs_may_be_over_one(self):
+        sheets = t.coefficients([[999_999, 0], [1_000_001, 0]], [1, 999_999], [1_100_000, 200_000], [100_000, 200_000], [0, 2_000_000],
+                                [2_000_000, 2_000_000])
+        self.assertEqual((sheets.inputs, sheets.domestic), ([500_000, 0, 500_001, 0], [450_000, 0, 450_000, 0]))
+        self.assertEqual(sheets.demand, [1_100_000, 1_099_999])
+
+    def test_a_column_sum_near_its_limit(self):
+        self.refused(7, 0, t.coefficients, *self.OVER)
+        self.assertEqual(t.coefficients(*self.WITHIN), ([950_100], [49_900], [105], [950_000], [499_994]))
+        lines = b"sector demand production value imports\n1 499994 9999861 498993 1050\nrounds 268\n"
+        for table, page in ((self.OVER, b"refused 7 0\n"), (self.WITHIN, lines)):
+            self.assertEqual(t.page(t.write_table(t.Table.of(*table))), page)
 
 
 class Schemes(unittest.TestCase):
