@@ -17,6 +17,26 @@ fn show_sheets(a: &[u64], v: &[u64], m: &[u64], d: &[u64], f: &[u64]) {
     show_end();
 }
 
+// The answer to a table, and its sheets.
+fn answer(
+    n: usize,
+    x: &[u64],
+    fin: &[u64],
+    e: &[u64],
+    imports: &[u64],
+    value: &[u64],
+    p: &[u64],
+    g: &[u64],
+    a: &mut [u64],
+    v: &mut [u64],
+    m: &mut [u64],
+    d: &mut [u64],
+    f: &mut [u64],
+) {
+    show_answer(coefficients(n, x, fin, e, imports, value, p, g, a, v, m, d, f));
+    show_sheets(a, v, m, d, f);
+}
+
 // Sheets from a table of n sectors with slices for two: a, v, m, d and f.
 fn two_sectors(
     n: usize,
@@ -33,7 +53,7 @@ fn two_sectors(
     let mut shares = [7u64; 2];
     let mut d = [7u64; 4];
     let mut f = [7u64; 2];
-    show_answer(coefficients(
+    answer(
         n,
         x,
         fin,
@@ -47,8 +67,7 @@ fn two_sectors(
         &mut shares,
         &mut d,
         &mut f,
-    ));
-    show_sheets(&a, &values, &shares, &d, &f);
+    );
 }
 
 // The same of a table of three sectors, with slices for three.
@@ -58,7 +77,7 @@ fn three_sectors(x: &[u64], fin: &[u64], e: &[u64], m: &[u64], v: &[u64], p: &[u
     let mut shares = [7u64; 3];
     let mut d = [7u64; 9];
     let mut f = [7u64; 3];
-    show_answer(coefficients(
+    answer(
         3,
         x,
         fin,
@@ -72,8 +91,7 @@ fn three_sectors(x: &[u64], fin: &[u64], e: &[u64], m: &[u64], v: &[u64], p: &[u
         &mut shares,
         &mut d,
         &mut f,
-    ));
-    show_sheets(&a, &values, &shares, &d, &f);
+    );
 }
 
 // The same of a table of one sector without an adjustment item, with slices for one.
@@ -92,7 +110,7 @@ fn one_sector(
     let mut d = [7u64; 1];
     let mut f = [7u64; 1];
     show_word(name);
-    show_answer(coefficients(
+    answer(
         1,
         &x,
         &fin,
@@ -106,8 +124,7 @@ fn one_sector(
         &mut shares,
         &mut d,
         &mut f,
-    ));
-    show_sheets(&a, &values, &shares, &d, &f);
+    );
 }
 
 // Cuts the columns, one after the other, two amounts each; the exports are as many as are left.
