@@ -1,4 +1,4 @@
-// Quotients by one: a share to the nearest millionth, and the part of an amount that a share takes, rounded down.
+// Shares in millionths: of a part in its whole, to the nearest, and what a share takes of an amount, rounded down.
 use model::ONE;
 ghost use mathlib.Core.Path.{_≡_};
 ghost use Prim.Native.Nat.{ℕ, _*_, _<_, _≤_};

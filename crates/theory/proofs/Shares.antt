@@ -20,7 +20,7 @@ nearest-zero : (a : ℕ) → nearest a 0 ≡ 0
 nearest-zero a = div-zero (2 * a + 0)
 
 -- a part is at most one of its whole
-pub share-le : (part whole : ℕ) → part ≤ whole → share part whole ≤ one
+share-le : (part whole : ℕ) → part ≤ whole → share part whole ≤ one
 share-le part zero h = rw (nearest-zero (part * one)) zero-le
 share-le part (suc w) h = pick (decLt one (share part (suc w)))
   where
