@@ -1,4 +1,5 @@
--- What demands 2 and 3 promise of an accepted result. Proved in `theory`, and carried by the calls' own contracts.
+-- What demands 2 and 3, and requests of document 02, promise of an accepted result. Proved in `theory` and its family, and carried by the calls' own
+-- contracts.
 use mathlib.Core.Path.{_≡_}
 use mathlib.Core.Logic.{_↔_}
 use Prim.Native.Nat.{ℕ, _+_, _*_, _-_, _≤_, _<_}
