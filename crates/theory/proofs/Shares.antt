@@ -1,5 +1,5 @@
 -- Quotients to the nearest, shares, and what shares take. Assumes nothing.
-use mathlib.Core.Path.{_≡_, sym}
+use mathlib.Core.Path.{_≡_, refl, sym, _∙_}
 use Prim.Native.Nat.{ℕ, zero, suc, _+_, _*_, _≤_, _<_, zero-le}
 use native.Mathlib.Decide.{decLt}
 use native.Mathlib.Nat.{div-zero, div-le-of-le-mul, mul-div-le, lt-mul-div-succ, mul-le-mul-right, mul-zero, le-refl, le-antisymm}
@@ -70,9 +70,11 @@ share-nearest part whole h =
     from (suc w) k = none-nearer part (suc w) (omega arith) k
 
 -- Theorem, for the reader: these words leave no other number
-pub nearest-only : (part whole s t : ℕ) → 0 < whole → NearestShare part whole s → NearestShare part whole t → s ≡ t
-nearest-only part whole s t some p q =
-    let e : deviation part whole s ≡ deviation part whole t = le-antisymm (p .nearest t) (q .nearest s) in
+pub nearest-only : (part whole s t : ℕ) → NearestShare part whole s → NearestShare part whole t → s ≡ t
+nearest-only part zero s t p q = p .ofNothing refl ∙ sym (q .ofNothing refl)
+nearest-only part (suc w) s t p q =
+    let some : 0 < suc w = omega arith in
+    let e : deviation part (suc w) s ≡ deviation part (suc w) t = le-antisymm (p .nearest t) (q .nearest s) in
     le-antisymm (q .halvesUpward some s e) (p .halvesUpward some t (sym e))
 
 -- a share takes no more than the whole of an amount
