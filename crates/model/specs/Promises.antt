@@ -69,7 +69,7 @@ pub record Rises (n : ℕ) (s t y z r : Cells) : Type 0 where
   -- "the total rise is less than 20 × T + 20 × n", with T the total added
   pub total : sum n (cell r) < 20 * sum n (added s t) + 20 * n
 
--- Document 02, ticket 6: how far k millionths of whole are from part, both taken a million times. Below 0 a difference counts as 0
+-- Document 02, ticket 6: how far k millionths of whole are from part, in millionths of a unit. A difference below 0 is 0, so one of the two is
 abbrev pub deviation : (part whole k : ℕ) → ℕ
 deviation part whole k = (part * one - k * whole) + (k * whole - part * one)
 

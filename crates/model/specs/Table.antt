@@ -60,7 +60,7 @@ module _ (t : Table) where
 abbrev pub nearest : ℕ → ℕ → ℕ
 nearest a b = (2 * a + b) / (2 * b)
 
--- part of whole, "to the nearest millionth"
+-- part of whole, "to the nearest millionth"; 0 where the whole is 0
 abbrev pub share : ℕ → ℕ → ℕ
 share part whole = nearest (part * one) whole
 

@@ -16,7 +16,7 @@ ghost use Rattle.model.specs.Checks.{amountLimit, columnSums, report, verdict};
 // Shares of the columns of x: each flow's part of the production of the sector that buys.
 pub fn fill_inputs(n: usize, x: &[u64], production: &[u64], a: &mut [u64])
     requires { ⌜ (1 ≤ n) × (n ≤ sectorLimit) × (length (now x) ≡ n * n) × (length (now production) ≡ n) × (length (now a) ≡ n * n) ⌝ }
-    requires { ⌜ ((k : ℕ) → (cell (now x) k ≤ amountLimit) × (cell (now production) k ≤ amountLimit)) ⌝ }
+    requires { ⌜ ((k : ℕ) → cell (now x) k ≤ amountLimit) ⌝ }
     ensures { λ _. ⌜ now (a .exit) ≡ matrix n (λ i j. share (at n (now (x .entry)) i j) (cell (now (production .entry)) j)) ⌝ }
 {
     let cells = n * n;
@@ -28,7 +28,7 @@ pub fn fill_inputs(n: usize, x: &[u64], production: &[u64], a: &mut [u64])
 // Each sector's part of a whole: value added of production.
 pub fn fill_shares(n: usize, part: &[u64], whole: &[u64], out: &mut [u64])
     requires { ⌜ (length (now part) ≡ n) × (length (now whole) ≡ n) × (length (now out) ≡ n) ⌝ }
-    requires { ⌜ ((k : ℕ) → (cell (now part) k ≤ amountLimit) × (cell (now whole) k ≤ amountLimit)) ⌝ }
+    requires { ⌜ ((k : ℕ) → cell (now part) k ≤ amountLimit) ⌝ }
     ensures { λ _. ⌜ now (out .exit) ≡ tabulate n (λ j. share (cell (now (part .entry)) j) (cell (now (whole .entry)) j)) ⌝ }
 {
     for j in 0..n {

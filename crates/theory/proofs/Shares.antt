@@ -1,8 +1,8 @@
 -- Quotients to the nearest, shares, and what shares take. Assumes nothing.
 use mathlib.Core.Path.{_≡_, refl, sym, _∙_}
-use Prim.Native.Nat.{ℕ, zero, suc, _+_, _*_, _≤_, _<_, zero-le}
+use Prim.Native.Nat.{ℕ, zero, suc, _+_, _*_, _-_, _/_, _%_, _≤_, _<_, zero-le}
 use native.Mathlib.Decide.{decLt}
-use native.Mathlib.Nat.{div-zero, div-le-of-le-mul, mul-div-le, lt-mul-div-succ, mul-le-mul-right, mul-zero, le-refl, le-antisymm}
+use native.Mathlib.Nat.{div-zero, div-add-mod', mod-lt, div-eq-of-lt-le, div-le-of-le-mul, mul-div-le, lt-mul-div-succ, mul-le-mul-right, mul-zero, le-refl, le-antisymm}
 use native.Mathlib.Omega.{arith}
 use Rattle.model.specs.Numbers.{one}
 use Rattle.model.specs.Table.{nearest, share, portion}
@@ -14,6 +14,15 @@ nearest-above a b = omega (arith, mul-div-le (2 * a + b) (2 * b))
 
 nearest-below : (a b : ℕ) → 0 < b → 2 * a < 2 * (nearest a b * b) + b
 nearest-below a b h = omega (arith, lt-mul-div-succ (2 * a + b) {b = 2 * b} (omega arith))
+
+-- by what is left over, held against what is missing to the next number
+pub nearest-down : (a b : ℕ) → a % b < b - a % b → a / b ≡ nearest a b
+nearest-down a b h =
+    sym (div-eq-of-lt-le (2 * b) (omega (arith, div-add-mod' a b)) (omega (arith, h, div-add-mod' a b)))
+
+pub nearest-up : (a b : ℕ) → 0 < b → b - a % b ≤ a % b → a / b + 1 ≡ nearest a b
+nearest-up a b some h =
+    sym (div-eq-of-lt-le (2 * b) (omega (arith, h, div-add-mod' a b)) (omega (arith, div-add-mod' a b, mod-lt a some)))
 
 -- a quotient by 0 is 0
 nearest-zero : (a : ℕ) → nearest a 0 ≡ 0

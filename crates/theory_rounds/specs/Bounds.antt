@@ -13,10 +13,6 @@ sumLimit = one * productionLimit
 abbrev pub RoundsFit : ℕ → Sheet → Cells → Type 0
 RoundsFit n c s = (k i : ℕ) → i < n → weighted n c (cell (rounds n c s k)) i ≤ sumLimit
 
--- twice the sum of two numbers below it is below 2^64: a numerator and its divisor
-abbrev pub quotientLimit : ℕ
-quotientLimit = 2 ^ 62
-
 -- every cell is narrow, below 2^32
 abbrev pub narrowLimit : ℕ
 narrowLimit = 2 ^ 32

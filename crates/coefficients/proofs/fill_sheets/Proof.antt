@@ -87,13 +87,13 @@ fill-inputs-requires : tie.Need-fill-inputs-requires
 fill-inputs-requires c κs =
     let A = passed (c .before) in
     let z = A .sizes in
-    ((z .some, z .few, z .flows, z .columns 4 (lit< tt), A .squares .0), λ k. (A .small .flows k, A .small .columns 4 k))
+    ((z .some, z .few, z .flows, z .columns 4 (lit< tt), A .squares .0), A .small .flows)
 
 fill-shares-requires : tie.Need-fill-shares-requires
 fill-shares-requires c κs =
     let A = passed (c .before .before .before .before .before) in
     let z = A .sizes in
-    ((z .columns 3 (lit< tt), z .columns 4 (lit< tt), A .slices .0), λ k. (A .small .columns 3 k, A .small .columns 4 k))
+    ((z .columns 3 (lit< tt), z .columns 4 (lit< tt), A .slices .0), A .small .columns 3)
 
 fill-import-shares-requires : tie.Need-fill-import-shares-requires
 fill-import-shares-requires c κs =

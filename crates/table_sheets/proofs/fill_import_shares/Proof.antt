@@ -25,7 +25,7 @@ need-of-requires c κs =
 share-of-requires : tie.Need-share-of-requires Inv-loop μ-loop
 share-of-requires c κs =
     let p = c .before .before .before in
-    (entry p .pre .1 .1 .1 (p .loop .i), omega (arith, c .before .need-of .ensures .1))
+    entry p .pre .1 .1 .1 (p .loop .i)
 
 loop-again : tie.Need-loop-again Inv-loop μ-loop
 loop-again c =

@@ -42,9 +42,7 @@ shared-slice-read-share-of-2 c =
 share-of-requires : tie.Need-share-of-requires Inv-loop μ-loop
 share-of-requires c κs =
     let p = c .before .before .before in
-    let s = entry p in
-    let k = p .loop .k in
-    (s .pre .1 k .0, omega (arith, s .pre .1 (k % s .args .n) .1))
+    entry p .pre .1 (p .loop .k)
 
 loop-again : tie.Need-loop-again Inv-loop μ-loop
 loop-again c =

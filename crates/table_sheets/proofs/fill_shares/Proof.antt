@@ -19,8 +19,7 @@ entry p = p .before .before .before .before
 share-of-requires : tie.Need-share-of-requires Inv-loop μ-loop
 share-of-requires c κs =
     let p = c .before .before .before in
-    let small = entry p .pre .1 (p .loop .j) in
-    (small .0, omega (arith, small .1))
+    entry p .pre .1 (p .loop .j)
 
 loop-again : tie.Need-loop-again Inv-loop μ-loop
 loop-again c =
