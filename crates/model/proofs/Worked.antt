@@ -1,13 +1,16 @@
 -- Document 01, "Worked table and its neighbours": P1 to P12 as rows of one table. The checker computes both columns. Assumes nothing.
 use mathlib.Core.Path.{_≡_, refl}
-use mathlib.Core.Bool.{true}
-use mathlib.Core.List.{List, [], _∷_, map}
+use mathlib.Core.Bool.{true, cond}
+use mathlib.Core.List.{List, [], _∷_, _++_, map}
 use Prim.Native.Nat.{ℕ, _+_, _*_}
-use Rattle.model.specs.Numbers.{one, tabulate, cell, at, transposed}
+use lib.Dec.{eqb}
+use lib.ListN.{length, replicate}
+use Rattle.model.specs.Numbers.{one, tabulate, tabulateCells, cell, at, transposed}
 use Rattle.model.specs.Table.{Table, share, absorption, inputCoefficient, valueAddedCoefficient, importCoefficient, domesticCoefficient, domesticDemand}
 use Rattle.model.specs.Rounds.{weighted, intermediate, round, rounds, changes, settling, settled, impliedDemand, unit, inverse, inverseRounds, dispersion, impact, impactRounds}
 use Rattle.model.specs.Checks.{Report, accepts, refuses, output}
 use Rattle.model.specs.Calls.{coefficientsReport, inputCoefficients, valueAddedCoefficients, importCoefficients, domesticCoefficients, domesticDemands, productionReport, priceReport, impliedReport, inverseReport, impactReport}
+use Rattle.model.specs.Aggregation.{mergedTable, groupTotal, groupSizes, aggregateReport}
 
 -- what a call says, and its output slices after it
 pub record Result : Type 0 where
@@ -240,3 +243,76 @@ impactRows =
 pub worked-impact : map (λ (r : Row). r .given) impactRows ≡ map (λ (r : Row). r .stated) impactRows
 unfolding impactRows impactReport productionReport intermediate round rounds changes settling settled impact impactRounds
 worked-impact = refl
+
+-- ---- document 02, ticket 7: merging sectors
+-- a table merged by groups: x and its columns, then the sizes
+abbrev mergedOf : Table → List ℕ → Result
+mergedOf t groups =
+    let g = length groups in
+    let r = aggregateReport t groups (g * g ∷ []) (g ∷ g ∷ g ∷ g ∷ g ∷ g ∷ g ∷ []) in
+    record {
+      said = r;
+      outputs = output r (g * g) (mergedTable t groups .flows)
+          ∷ map (output r g) (mergedTable t groups .columns)
+          ++ (output r g (groupSizes (t .sectors) groups) ∷ []);
+    }
+
+-- three sectors with an adjustment item: F, E, M, V, X and G
+abbrev threeSectors : Table
+threeSectors =
+    record {
+      sectors = 3;
+      flows = 10 ∷ 20 ∷ 30 ∷ 40 ∷ 50 ∷ 60 ∷ 70 ∷ 80 ∷ 90 ∷ [];
+      columns =
+          (100 ∷ 200 ∷ 300 ∷ [])
+          ∷ (95 ∷ 7 ∷ 11 ∷ [])
+          ∷ (45 ∷ 60 ∷ 170 ∷ [])
+          ∷ (100 ∷ 150 ∷ 205 ∷ [])
+          ∷ (220 ∷ 300 ∷ 385 ∷ [])
+          ∷ (10 ∷ 3 ∷ 4 ∷ [])
+          ∷ [];
+    }
+
+-- nothing is left of a call that is lent slices for g sectors
+abbrev nothing : ℕ → List (List ℕ)
+nothing g = tabulateCells 8 (λ c. replicate (cond (eqb c 0) (g * g) g) 0)
+
+-- two sectors without flows, that make 600,000,000 and p for final demand
+abbrev forDemand : ℕ → Table
+forDemand p =
+    let made : List ℕ = 600000000 ∷ p ∷ [] in
+    let none : List ℕ = 0 ∷ 0 ∷ [] in
+    record { sectors = 2; flows = 0 ∷ 0 ∷ 0 ∷ 0 ∷ []; columns = made ∷ none ∷ none ∷ made ∷ made ∷ none ∷ [] }
+
+unfoldable pub mergedRows : List Row
+mergedRows =
+    -- sectors 0 and 2 become sector 0, sector 1 becomes sector 1
+    mergedOf threeSectors (5 ∷ 2 ∷ [])
+    ⊳ (accepts [] leaving ((200 ∷ 100 ∷ 100 ∷ 50 ∷ []) ∷ (400 ∷ 200 ∷ []) ∷ (106 ∷ 7 ∷ []) ∷ (215 ∷ 60 ∷ []) ∷ (305 ∷ 150 ∷ []) ∷ (605 ∷ 300 ∷ []) ∷ (14 ∷ 3 ∷ []) ∷ (2 ∷ 1 ∷ []) ∷ []))
+    -- every group a single sector, in order and in the other order; all in one group
+    ∷ mergedOf threeSectors (1 ∷ 2 ∷ 4 ∷ []) ⊳ (accepts [] leaving (threeSectors .flows ∷ threeSectors .columns ++ ((1 ∷ 1 ∷ 1 ∷ []) ∷ [])))
+    ∷ mergedOf threeSectors (4 ∷ 2 ∷ 1 ∷ [])
+    ⊳ (accepts [] leaving ((90 ∷ 80 ∷ 70 ∷ 60 ∷ 50 ∷ 40 ∷ 30 ∷ 20 ∷ 10 ∷ []) ∷ (300 ∷ 200 ∷ 100 ∷ []) ∷ (11 ∷ 7 ∷ 95 ∷ []) ∷ (170 ∷ 60 ∷ 45 ∷ []) ∷ (205 ∷ 150 ∷ 100 ∷ []) ∷ (385 ∷ 300 ∷ 220 ∷ []) ∷ (4 ∷ 3 ∷ 10 ∷ []) ∷ (1 ∷ 1 ∷ 1 ∷ []) ∷ []))
+    ∷ mergedOf threeSectors (7 ∷ [])
+    ⊳ (accepts [] leaving ((450 ∷ []) ∷ (600 ∷ []) ∷ (113 ∷ []) ∷ (275 ∷ []) ∷ (455 ∷ []) ∷ (905 ∷ []) ∷ (17 ∷ []) ∷ (3 ∷ []) ∷ []))
+    -- 2: no group, and more groups than sectors
+    ∷ mergedOf threeSectors [] ⊳ (refuses 0 2 0 leaving nothing 0)
+    ∷ mergedOf threeSectors (1 ∷ 2 ∷ 4 ∷ 0 ∷ []) ⊳ (refuses 0 2 0 leaving nothing 4)
+    -- 18: sector 2 in no group, sector 1 in two; an empty group; a bit at 3, and at 63
+    ∷ mergedOf threeSectors (1 ∷ 2 ∷ []) ⊳ (refuses 0 18 0 leaving nothing 2)
+    ∷ mergedOf threeSectors (3 ∷ 6 ∷ []) ⊳ (refuses 0 18 0 leaving nothing 2)
+    ∷ mergedOf threeSectors (7 ∷ 0 ∷ []) ⊳ (refuses 0 18 0 leaving nothing 2)
+    ∷ mergedOf threeSectors (5 ∷ 10 ∷ []) ⊳ (refuses 0 18 0 leaving nothing 2)
+    ∷ mergedOf threeSectors (9223372036854775815 ∷ []) ⊳ (refuses 0 18 0 leaving nothing 1)
+    -- 19: a merged amount of exactly 1,000,000,000, and of one more; 18 comes before it
+    ∷ mergedOf (forDemand 400000000) (3 ∷ []) ⊳ (accepts [] leaving ((0 ∷ []) ∷ (1000000000 ∷ []) ∷ (0 ∷ []) ∷ (0 ∷ []) ∷ (1000000000 ∷ []) ∷ (1000000000 ∷ []) ∷ (0 ∷ []) ∷ (2 ∷ []) ∷ []))
+    ∷ mergedOf (forDemand 400000001) (3 ∷ []) ⊳ (refuses 0 19 0 leaving nothing 1)
+    ∷ mergedOf (forDemand 400000001) (7 ∷ []) ⊳ (refuses 0 18 0 leaving nothing 1)
+    -- 6 comes before 18: a sector that imports more than is needed, and an empty group
+    ∷ mergedOf (single 0 0 10 5 5 5) (0 ∷ []) ⊳ (refuses 0 6 0 leaving nothing 1)
+    ∷ []
+
+-- Theorem, for the reader: every case above is answered as stated
+pub worked-merging : map (λ (r : Row). r .given) mergedRows ≡ map (λ (r : Row). r .stated) mergedRows
+unfolding mergedRows aggregateReport groupTotal groupSizes absorption
+worked-merging = refl

@@ -4,16 +4,17 @@
 use mathlib.Core.Path.{_≡_}
 use mathlib.Core.Logic.{_↔_}
 use mathlib.Core.Bool.{true}
-use mathlib.Core.List.{List, [], _∷_, map, reverse}
+use mathlib.Core.List.{List, [], _∷_, _++_, map, reverse}
 use Prim.Native.Nat.{ℕ, _*_, _≤_, _<_}
 use lib.ListN.{length, getD, take, replicate}
-use Rattle.model.specs.Numbers.{Cells, cell, at, transposed}
-use Rattle.model.specs.Table.{Table, tableOf}
+use Rattle.model.specs.Numbers.{Cells, sum, cell, at, transposed}
+use Rattle.model.specs.Table.{Table, tableOf, column}
 use Rattle.model.specs.Bytes.{Bytes, padded}
 use Rattle.model.specs.Rounds.{settled, Settles, impliedDemand, inducedValueAdded, inducedImports, inverse, dispersion, settling, impact}
-use Rattle.model.specs.Checks.{Report, accepts, verdict, output, reportRead, roundsOf, sectorsOf, bytesOf, tableAmounts, demandLimit, productionBudget, priceBudget}
-use Rattle.model.specs.Calls.{coefficientsReport, inputCoefficients, valueAddedCoefficients, importCoefficients, domesticCoefficients, domesticDemands, productionReport, priceReport, impliedReport, inducedReport, inverseReport, impactReport}
-use Rattle.model.specs.Promises.{Equal, Distinguishes, Accurate, AccuratePrices, Returns, NotAbove, NowhereBelow, Rises, NearestShares}
+use Rattle.model.specs.Checks.{Report, accepts, verdict, output, reportRead, roundsOf, sectorsOf, bytesOf, tableAmounts, columnSums, demandLimit, productionBudget, priceBudget}
+use Rattle.model.specs.Calls.{tableChecks, coefficientsReport, inputCoefficients, valueAddedCoefficients, importCoefficients, domesticCoefficients, domesticDemands, productionReport, priceReport, impliedReport, inducedReport, inverseReport, impactReport}
+use Rattle.model.specs.Aggregation.{mergedTable, groupSizes, aggregateReport}
+use Rattle.model.specs.Promises.{Equal, Distinguishes, Accurate, AccuratePrices, Returns, NotAbove, NowhereBelow, Rises, NearestShares, SameTotals}
 use Rattle.model.specs.File.{Entry, Reading, reading, called, answerOf, flowsRead, columnRead, columnWord, fileLimit}
 use Rattle.model.specs.Writer.{tableEntries, written, fileBytes, writerReport, InForm, returned}
 use Rattle.model.specs.Page.{refusalLine, page, pageLimit, pageReport, pageBytes}
@@ -44,6 +45,24 @@ pub record Derived (t : Table) (a₀ v₀ m₀ d₀ f₀ : Cells) (r : Report) (
   pub shares : r .accepted ≡ true → NearestShares t a v m
   -- "so the accuracy rule holds over the new sheets": for every production that d and f settle at
   pub accurate : r .accepted ≡ true → (k : ℕ) (y : Cells) → Settles (t .sectors) (at (t .sectors) d) f k y → Accurate (t .sectors) d f y
+
+-- A table t with its sectors merged by groups (document 02, ticket 7). What is lent for the merged table is u₀ before the call and u after it
+pub record Aggregated (t : Table) (groups : Cells) (u₀ : Table) (sizes₀ : Cells) (r : Report) (u : Table) (sizes : Cells) : Type 0 where
+  pub answer : r ≡ aggregateReport t groups (length (u₀ .flows) ∷ []) (map length (u₀ .columns) ++ (length sizes₀ ∷ []))
+  pub flows : u .flows ≡ output r (length (u₀ .flows)) (mergedTable t groups .flows)
+  pub columns : (c : ℕ) → column u c ≡ output r (length (column u₀ c)) (column (mergedTable t groups) c)
+  -- "how many sectors each group took in"
+  pub took : sizes ≡ output r (length sizes₀) (groupSizes (t .sectors) groups)
+  -- "The merged table passes 4, 5 and 6", and 1, 2, 3 and 16
+  pub passes : r .accepted ≡ true → verdict (tableChecks u [] []) [] ≡ accepts []
+  -- so sheets from it, lent the right lengths, are refused by 7 alone
+  pub seventh : r .accepted ≡ true
+      → let g = u .sectors in
+      coefficientsReport u (g * g ∷ g * g ∷ []) (g ∷ g ∷ g ∷ []) ≡ verdict (columnSums g (at g (domesticCoefficients u)) ∷ []) []
+  -- "the totals of x, F, E, M, V, X and G equal those before"
+  pub totals : r .accepted ≡ true → SameTotals t u
+  -- the groups took in every sector
+  pub every : r .accepted ≡ true → sum (length groups) (cell sizes) ≡ t .sectors
 
 -- Production from a demand f for domestic goods. Demand 3 is `distinct` and `accurate`: an accepted production differs from that of every other
 -- demand, and only from those; and against every exact balance it is nowhere too high, and all sectors together lack less than 20 × n

@@ -5,6 +5,7 @@ pub mod Table
 pub mod Rounds
 pub mod Checks
 pub mod Calls
+pub mod Aggregation
 pub mod Promises
 pub mod File
 pub mod Writer

@@ -4,8 +4,8 @@ use mathlib.Core.Path.{_≡_}
 use mathlib.Core.Logic.{_↔_}
 use Prim.Native.Nat.{ℕ, _+_, _*_, _-_, _≤_, _<_}
 use lib.ListN.{length}
-use Rattle.model.specs.Numbers.{Cells, Sheet, one, sum, cell, at, transposed, columnSum}
-use Rattle.model.specs.Table.{Table, sectorLimit, imports, valueAdded, production, flow, need}
+use Rattle.model.specs.Numbers.{Cells, Sheet, one, sum, cell, at, transposed, columnSum, allCells}
+use Rattle.model.specs.Table.{Table, sectorLimit, column, imports, valueAdded, production, flow, need}
 use Rattle.model.specs.Checks.{columnLimit}
 use Rattle.model.specs.Rounds.{Settles, ExactBalance, shortfall}
 
@@ -89,3 +89,8 @@ pub record NearestShares (t : Table) (a v m : Cells) : Type 0 where
   pub inputs : (i j : ℕ) → i < t .sectors → j < t .sectors → NearestShare (flow t i j) (cell (production t) j) (at (t .sectors) a i j)
   pub values : (j : ℕ) → j < t .sectors → NearestShare (cell (valueAdded t) j) (cell (production t) j) (cell v j)
   pub imported : (i : ℕ) → i < t .sectors → NearestShare (cell (imports t) i) (need t i) (cell m i)
+
+-- Document 02, ticket 7: "the totals of x, F, E, M, V, X and G equal those before, as sums over the original cells"
+pub record SameTotals (t u : Table) : Type 0 where
+  pub flows : allCells (u .sectors) (flow u) ≡ allCells (t .sectors) (flow t)
+  pub columns : (c : ℕ) → sum (u .sectors) (cell (column u c)) ≡ sum (t .sectors) (cell (column t c))
