@@ -44,7 +44,10 @@ module _ (t : Table) (groups : Cells) where
   mergedWithin = single 19 (verdict (tableAmounts mergedTable ++ (exportsWithin mergedTable ∷ [])) [] .accepted)
 
   -- Merging asks 1, 2, 3, 16, 4, 5, 6, 18, 19; its results: `mergedTable` and `groupSizes`
+  abbrev pub aggregateChecks : (matrices lent : List ℕ) → List Check
+  aggregateChecks matrices lent =
+      size (t .sectors) ∷ lengths (t .sectors) (length (t .flows) ∷ []) (map length (t .columns))
+      ∷ groupLengths matrices lent ++ tableAmounts t ++ balanceChecks t ++ (partitioned ∷ mergedWithin ∷ [])
+
   unfoldable pub aggregateReport : (matrices lent : List ℕ) → Report
-  aggregateReport matrices lent =
-      verdict (size (t .sectors) ∷ lengths (t .sectors) (length (t .flows) ∷ []) (map length (t .columns))
-      ∷ groupLengths matrices lent ++ tableAmounts t ++ balanceChecks t ++ (partitioned ∷ mergedWithin ∷ [])) []
+  aggregateReport matrices lent = verdict (aggregateChecks matrices lent) []

@@ -165,6 +165,10 @@ pub each-equal : (n : ℕ) (xs : List ℕ) → all (eqb n) xs ≡ true → Each 
 each-equal n [] e = tt
 each-equal n (x ∷ xs) e = let p = all-equal n x xs e in (p .0, each-equal n xs (p .1))
 
+pub equal-each : (n : ℕ) (xs : List ℕ) → Each n xs → all (eqb n) xs ≡ true
+equal-each n [] e = refl
+equal-each n (x ∷ xs) (e, es) = rw (eq-eqb n x (sym e)) (equal-each n xs es)
+
 -- by a scan: where every number of a list passes, and where one does not
 pub all-passed : (p : ℕ → Bool) (xs : List ℕ) → ((k : ℕ) → k < length xs → p (cell xs k) ≡ true) → all p xs ≡ true
 all-passed p [] h = refl
@@ -174,6 +178,12 @@ pub all-failed : (p : ℕ → Bool) (xs : List ℕ) (k : ℕ) → k < length xs 
 all-failed p [] k h e = absurd (not-suc-le-zero h)
 all-failed p (x ∷ xs) zero h e = rw e
 all-failed p (x ∷ xs) (suc k) h e = rw (all-failed p xs k (le-of-suc-le-suc h) e) (and-last-false (p x))
+
+-- and back: where all pass, each does
+pub all-cell : (p : ℕ → Bool) (xs : List ℕ) → all p xs ≡ true → (k : ℕ) → k < length xs → p (cell xs k) ≡ true
+all-cell p [] e k h = absurd (not-suc-le-zero h)
+all-cell p (x ∷ xs) e zero h = and-true (p x) (all p xs) e .0
+all-cell p (x ∷ xs) e (suc k) h = all-cell p xs (and-true (p x) (all p xs) e .1) k (le-of-suc-le-suc h)
 
 pub same-equal : (n : ℕ) (a b : List ℕ) → same n a b ≡ true → Equal n a b
 same-equal zero a b e = λ i h. absurd (not-suc-le-zero h)

@@ -64,6 +64,10 @@ sum-cell (suc n) f =
 pub sum-part : (m n : ℕ) (f : ℕ → ℕ) → m ≤ n → sum m f ≤ sum n f
 sum-part m n f = le-ind (λ (k : ℕ). sum m f ≤ sum k f) (le-refl (sum m f)) (λ k h l. le-trans l (le-add-right (sum k f) (f k))) n
 
+-- and where the rest of it is 0, the whole
+pub sum-rest : (m n : ℕ) (f : ℕ → ℕ) → m ≤ n → ((i : ℕ) → m ≤ i → f i ≡ 0) → sum n f ≡ sum m f
+sum-rest m n f h rest = le-ind (λ (k : ℕ). sum k f ≡ sum m f) refl (λ k l e. omega (arith, e, rest k l)) n h
+
 -- a sum with one larger term
 pub sum-raised : (n : ℕ) {f g : ℕ → ℕ} (i d : ℕ) → i < n → ((k : ℕ) → k < n → (i ≡ k → ⊥) → g k ≡ f k) → g i ≡ f i + d → sum n g ≡ sum n f + d
 sum-raised zero i d h others here = absurd (not-suc-le-zero h)

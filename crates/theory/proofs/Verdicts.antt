@@ -128,6 +128,10 @@ pub all-pass-parts : (ps qs : List Check) → AllPass (ps ++ qs) → AllPass ps 
 all-pass-parts [] qs p = (tt, p)
 all-pass-parts (q ∷ ps) qs (p, ps-pass) = let r = all-pass-parts ps qs ps-pass in ((p, r .0), r .1)
 
+pub all-pass-both : (ps qs : List Check) → AllPass ps → AllPass qs → AllPass (ps ++ qs)
+all-pass-both [] qs p q = q
+all-pass-both (r ∷ ps) qs (p, more) q = (p, all-pass-both ps qs more q)
+
 -- checks that all pass hand on to what follows
 pub pass-on : (ps qs : List Check) (ks : List ℕ) → AllPass ps → verdict (ps ++ qs) ks ≡ verdict qs ks
 pass-on [] qs ks p = refl

@@ -2,10 +2,10 @@
 use mathlib.Core.Path.{_≡_, refl, ap, ap₂, subst, _∙_}
 use mathlib.Core.Bool.{Bool, true, false}
 use mathlib.Core.List.{List, [], _∷_, _++_, map}
-use Prim.Native.Nat.{ℕ, zero, suc, _+_, _*_, _-_, _/_, _%_, _≤_, _<_, zero-le}
-use native.Mathlib.Nat.{sub-le, not-suc-le-zero, le-of-suc-le-suc}
+use Prim.Native.Nat.{ℕ, zero, suc, _+_, _*_, _-_, _/_, _%_, _≤_, _<_, zero-le, suc-le-suc}
+use native.Mathlib.Nat.{sub-le, not-suc-le-zero, le-of-suc-le-suc, zero-lt-suc}
 use native.Mathlib.Omega.{arith}
-use borrow.Author.Tests.{leb-true, eqb-true, ltb-true, ltb-false}
+use borrow.Author.Tests.{leb-true, eqb-true, ltb-true, ltb-false, le-leb, eq-eqb}
 use lib.Dec.{ltb}
 use lib.ListN.{length, getD, List·getD-eq-default}
 use Rattle.model.specs.Numbers.{one, sum, tabulate, cell, at, matrix, transposed}
@@ -15,11 +15,11 @@ use Rattle.model.specs.Calls.{tableChecks, inputCoefficients, valueAddedCoeffic
 use Rattle.model.specs.Promises.{NearestShares}
 use Rattle.theory.specs.Slices.{Each, Columns}
 use Rattle.theory_tables.specs.Tables.{TableSizes, TableAmounts}
-use Rattle.theory.proofs.Lists.{cell-tabulate, tabulate-cong}
+use Rattle.theory.proofs.Lists.{cell-tabulate, tabulate-cong, equal-each}
 use Rattle.theory.proofs.Sums.{sum-cell}
 use Rattle.theory.proofs.Matrices.{place-row, place-column, place-cell, matrix-cell}
 use Rattle.theory.proofs.Shares.{share-nearest, portion-le}
-use Rattle.theory.proofs.Verdicts.{Passes, AllPass, all-pass-parts, sized}
+use Rattle.theory.proofs.Verdicts.{Passes, AllPass, all-pass-parts, all-pass-both, sized, size-passes, lengths-pass}
 
 -- every length of a list of slices, and of what follows them
 pub slice-lengths : (n : ℕ) (ss : List (List ℕ)) (lent : List ℕ) → Each n (map length ss ++ lent) → Columns n ss × Each n lent
@@ -29,6 +29,11 @@ slice-lengths n (s ∷ ss) lent (e, es) = let p = slice-lengths n ss lent es in 
     one-more : length s ≡ n → Columns n ss → (c : ℕ) → c < suc (length ss) → length (getD (s ∷ ss) c []) ≡ n
     one-more e more zero h = e
     one-more e more (suc c) h = more c (le-of-suc-le-suc h)
+
+-- and the other way round
+lengths-each : (n : ℕ) (ss : List (List ℕ)) (lent : List ℕ) → Columns n ss → Each n lent → Each n (map length ss ++ lent)
+lengths-each n [] lent c e = e
+lengths-each n (s ∷ ss) lent c e = (c 0 (zero-lt-suc (length ss)), lengths-each n ss lent (λ k h. c (suc k) (suc-le-suc h)) e)
 
 pub table-sizes : (t : Table) (matrices lent : List ℕ) → Passes (size (t .sectors))
     → Passes (lengths (t .sectors) (length (t .flows) ∷ matrices) (map length (t .columns) ++ lent))
@@ -57,6 +62,19 @@ table-amounts t p =
     let small = counted-cell 0 amountLimit (t .flows ∷ t .columns) p in
     record { flows = small 0; columns = λ c. small (suc c) }
 
+-- and the other way round: amounts that are within the limit pass
+counted-passes : (place limit : ℕ) (ss : List (List ℕ)) → ((c k : ℕ) → cell (getD ss c []) k ≤ limit) → AllPass (countedOn place (map (bounded 3 0 limit) ss))
+counted-passes place limit [] small = tt
+counted-passes place limit (s ∷ ss) small =
+    (λ k h. le-leb (cell s k) limit (small 0 k), counted-passes (place + length s) limit ss (λ c. small (suc c)))
+
+pub amounts-pass : (t : Table) → TableAmounts t → AllPass (tableAmounts t)
+amounts-pass t a = counted-passes 0 amountLimit (t .flows ∷ t .columns) small
+  where
+    small : (c k : ℕ) → cell (getD (t .flows ∷ t .columns) c []) k ≤ amountLimit
+    small zero k = a .flows k
+    small (suc c) k = a .columns c k
+
 -- questions 16, 4, 5 and 6 pass
 pub record Balanced (t : Table) : Type 0 where
   pub exports : (i : ℕ) → i < t .sectors → adjustedExports t i ≤ amountLimit
@@ -64,7 +82,7 @@ pub record Balanced (t : Table) : Type 0 where
   pub rows : (i : ℕ) → i < t .sectors → need t i + adjustedExports t i ≡ cell (production t) i + cell (imports t) i
   pub covered : (i : ℕ) → i < t .sectors → cell (imports t) i ≤ need t i
 
-balanced : (t : Table) → AllPass (balanceChecks t) → Balanced t
+pub balanced : (t : Table) → AllPass (balanceChecks t) → Balanced t
 balanced t (e, (c, (r, (m, _)))) =
     record {
       exports = λ i h. leb-true _ _ (e i h);
@@ -72,6 +90,12 @@ balanced t (e, (c, (r, (m, _)))) =
       rows = λ i h. eqb-true _ _ (r i h);
       covered = λ i h. leb-true _ _ (m i h);
     }
+
+balance-passes : (t : Table) → Balanced t → AllPass (balanceChecks t)
+balance-passes t b = (
+  λ i h. le-leb _ _ (b .exports i h),
+  (λ j h. eq-eqb _ _ (b .columns j h), (λ i h. eq-eqb _ _ (b .rows i h), (λ i h. le-leb _ _ (b .covered i h), tt))),
+)
 
 -- Theorem, for the reader: with 3, 5 and 6 answered yes, so is 16. It refuses no table that would be accepted without it
 pub exports-follow : (t : Table) → TableAmounts t → (i : ℕ) → need t i + adjustedExports t i ≡ cell (production t) i + cell (imports t) i → cell (imports t) i ≤ need t i
@@ -97,6 +121,19 @@ accepted-table t matrices lent (p, (q, rest)) =
       squares = z .1;
       slices = z .2;
     }
+
+pub table-passes : (t : Table) (matrices lent : List ℕ) → Accepted t matrices lent → AllPass (tableChecks t matrices lent)
+table-passes t matrices lent A =
+    let n = t .sectors in
+    let z = A .sizes in
+    let squares = length (t .flows) ∷ matrices in
+    let slices = map length (t .columns) ++ lent in (
+      size-passes n squares slices (z .some) (z .few),
+      (
+        lengths-pass n squares slices (equal-each (n * n) squares (z .flows, A .squares)) (equal-each n slices (lengths-each n (t .columns) lent (z .columns) (A .slices))),
+        all-pass-both (tableAmounts t) (balanceChecks t) (amounts-pass t (A .small)) (balance-passes t (A .balance)),
+      ),
+    )
 
 -- ---- an accepted table's shares are to the nearest millionth, and its demands within their limit
 module _ (t : Table) (b : Balanced t) where
