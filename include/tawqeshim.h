@@ -54,7 +54,7 @@ extern const char tawqeshim_version[];
 
 /* One, in millionths, and the limits of the questions. */
 #define TAWQESHIM_ONE UINT64_C(1000000)
-#define TAWQESHIM_AMOUNT_LIMIT UINT64_C(1000000000)        /* 3: an amount of a table, a final demand; 16: exports and adjustment */
+#define TAWQESHIM_AMOUNT_LIMIT UINT64_C(1000000000)        /* 3, 19: an amount of a table, a final demand; 16, 19: exports and adjustment */
 #define TAWQESHIM_SHARE_LIMIT TAWQESHIM_ONE                /* 3: an input coefficient, an import share, a value share */
 #define TAWQESHIM_COLUMN_LIMIT UINT64_C(950000)            /* 7: the column sum of domestic coefficients */
 #define TAWQESHIM_DEMAND_LIMIT UINT64_C(2000000000)        /* 8: a demand for domestic goods */
@@ -106,8 +106,12 @@ enum tawqeshim_number {
     TAWQESHIM_REFUSED_EXPORTS = 16,
     /* the second demand is nowhere below the first; asked after 8, before 9. Place: the first sector below */
     TAWQESHIM_REFUSED_LOWER_DEMAND = 17,
+    /* every sector is in exactly one group, no group is empty, and no bit at n or above is set; asked after 6. Place: 0 */
+    TAWQESHIM_REFUSED_GROUPS = 18,
+    /* every merged amount is within 1,000,000,000, and so are merged exports and adjustment together; asked after 18. Place: 0 */
+    TAWQESHIM_REFUSED_MERGED_AMOUNT = 19,
     /* the last number */
-    TAWQESHIM_QUESTIONS = 17
+    TAWQESHIM_QUESTIONS = 19
 };
 
 /* The question of a number, as text to show; an empty text for 0 and for a number that no question has. */
@@ -131,6 +135,8 @@ static inline const char *tawqeshim_question(uint8_t number) {
         "does kind 8 come, with no byte after it?",
         "are a sector's exports and adjustment together within 1,000,000,000?",
         "is the second demand nowhere below the first?",
+        "is every sector in exactly one group, no group empty and no bit at n or above set?",
+        "is every merged amount, and merged exports and adjustment together, within 1,000,000,000?",
     };
     return number <= TAWQESHIM_QUESTIONS ? texts[number] : "";
 }
@@ -167,6 +173,44 @@ void tawqeshim_coefficients(
     uint64_t *m, size_t m_length,
     uint64_t *d, size_t d_length,
     uint64_t *f, size_t f_length,
+    uint8_t *number, size_t *place);
+
+/*
+ * Merges sectors: from a table to one that has a sector for each group of its sectors. Asks 1, 2, 3, 16, 4, 5, 6, 18, 19.
+ *
+ * Takes the table as tawqeshim_coefficients does, with the same places of 3; and groups, g words of 64 bits, where g, their length, is
+ * from 1 to n. Another g is refused with 2. Bit i of a word, which counts 2 to the power of i, says that sector i is in the group. Every
+ * sector is in exactly one group, and every group has a sector. A group's sectors need not be neighbours.
+ * Gives the merged table, in which group k is sector k: merged_x, g * g cells, and the six merged columns, g cells each. A merged cell is
+ * the sum of all cells that meet in it: merged_x[k * g + l] of the cells of x with their row in group k and their column in group l. So
+ * what the sectors of a group buy from each other stands on the diagonal. Gives in sizes, g cells, how many sectors each group took in.
+ *
+ * The merged table passes 1 to 6 and 16. The totals of x and of each column are those before, and the sizes sum to n. The rises that a
+ * table file may carry are no part of merging.
+ * Question 7 is not asked: a table that it refuses can be merged too. NOTHING IS PROMISED of 7 after merging, or of multipliers. Sheets
+ * from the merged table may be refused, by 7 alone, also where those of the table before are accepted. Its coefficients, its inverse and
+ * what is worked out with them are figures of their own, not sums of those before.
+ *
+ * A refusal sets every cell of the eight outputs to 0, also of one that has another length.
+ */
+void tawqeshim_aggregate(
+    size_t n,
+    const uint64_t *x, size_t x_length,
+    const uint64_t *final_demand, size_t final_demand_length,
+    const uint64_t *exports, size_t exports_length,
+    const uint64_t *imports, size_t imports_length,
+    const uint64_t *value_added, size_t value_added_length,
+    const uint64_t *production, size_t production_length,
+    const uint64_t *adjustment, size_t adjustment_length,
+    const uint64_t *groups, size_t groups_length,
+    uint64_t *merged_x, size_t merged_x_length,
+    uint64_t *merged_final_demand, size_t merged_final_demand_length,
+    uint64_t *merged_exports, size_t merged_exports_length,
+    uint64_t *merged_imports, size_t merged_imports_length,
+    uint64_t *merged_value_added, size_t merged_value_added_length,
+    uint64_t *merged_production, size_t merged_production_length,
+    uint64_t *merged_adjustment, size_t merged_adjustment_length,
+    uint64_t *sizes, size_t sizes_length,
     uint8_t *number, size_t *place);
 
 /*
@@ -357,8 +401,10 @@ void tawqeshim_page(
     uint8_t *number, size_t *place, size_t *length);
 
 /*
- * A table and its sheets by names, for tawqeshim_coefficients, tawqeshim_write_table and tawqeshim_induced without a word about lengths or
- * order. Each pointer is to n cells, or where it says so to n * n; these lengths are handed over as they are, so the arrays must have them.
+ * A table, its sheets and what it is merged into by names, for tawqeshim_coefficients, tawqeshim_aggregate, tawqeshim_write_table and
+ * tawqeshim_induced without a word about lengths or order. Each pointer is to n cells, or where it says so to n * n; of what is merged to
+ * g, or to g * g. These lengths are handed over as they are, so the arrays must have them; those that tawqeshim_read_table filled are
+ * longer, and will do.
  * A table without adjustment has n zeros there: an initializer of five columns leaves NULL.
  */
 struct tawqeshim_table {
@@ -374,6 +420,12 @@ struct tawqeshim_sheets {
     uint64_t *demand;        /* f */
 };
 
+struct tawqeshim_merged {
+    uint64_t *flows; /* g * g: merged x */
+    uint64_t *final_demand, *exports, *imports, *value_added, *production, *adjustment;
+    uint64_t *sizes; /* how many sectors each group took in */
+};
+
 /* tawqeshim_coefficients: fills the sheets of a table. */
 static inline void tawqeshim_table_sheets(
     size_t n, const struct tawqeshim_table *table, const struct tawqeshim_sheets *sheets, uint8_t *number, size_t *place) {
@@ -382,6 +434,31 @@ static inline void tawqeshim_table_sheets(
         table->adjustment, n,
         sheets->inputs, n * n, sheets->value_shares, n, sheets->import_shares, n, sheets->domestic, n * n, sheets->demand, n,
         number, place);
+}
+
+/* tawqeshim_aggregate: merges the sectors of a table into g groups, one word each. */
+static inline void tawqeshim_table_aggregate(
+    size_t n, const struct tawqeshim_table *table, size_t g, const uint64_t *groups, const struct tawqeshim_merged *merged,
+    uint8_t *number, size_t *place) {
+    tawqeshim_aggregate(
+        n, table->flows, n * n, table->final_demand, n, table->exports, n, table->imports, n, table->value_added, n, table->production, n,
+        table->adjustment, n, groups, g,
+        merged->flows, g * g, merged->final_demand, g, merged->exports, g, merged->imports, g, merged->value_added, g,
+        merged->production, g, merged->adjustment, g, merged->sizes, g,
+        number, place);
+}
+
+/* What was merged as a table of g sectors, for the functions that read one. The arrays stay the same. */
+static inline struct tawqeshim_table tawqeshim_merged_table(const struct tawqeshim_merged *merged) {
+    struct tawqeshim_table table;
+    table.flows = merged->flows;
+    table.final_demand = merged->final_demand;
+    table.exports = merged->exports;
+    table.imports = merged->imports;
+    table.value_added = merged->value_added;
+    table.production = merged->production;
+    table.adjustment = merged->adjustment;
+    return table;
 }
 
 /* tawqeshim_write_table: a table and its n rises as a file, in TAWQESHIM_FILE bytes. A table without rises has n zeros. */

@@ -8,6 +8,7 @@ Input coefficients and the shares of value added and imports are to the nearest 
 down.
 
     coefficients             from a table to its sheets: coefficients, shares, and the demand for domestic goods
+    aggregate                from a table to one with fewer sectors: groups of sectors are merged
     production               from a demand for domestic goods to production
     impact                   the rise of production from one demand to a second: what a scheme adds
     price                    from direct price rises to settled ones
@@ -71,9 +72,9 @@ from pathlib import Path
 from typing import Any, NamedTuple, NoReturn, Optional, Protocol, Union
 
 __version__ = "3.0.0"
-__all__ = ["PRODUCTION_BUDGET", "PRICE_BUDGET", "QUESTIONS", "Refused", "Coefficients", "Production", "Impact", "Prices", "Induced", "Inverse",
-           "Table", "coefficients", "production", "impact", "price", "implied_demand", "induced", "inverse", "row", "read_table", "write_table",
-           "page"]
+__all__ = ["PRODUCTION_BUDGET", "PRICE_BUDGET", "QUESTIONS", "Refused", "Coefficients", "Production", "Impact", "Prices", "Induced",
+           "Inverse", "Table", "Aggregate", "coefficients", "aggregate", "production", "impact", "price", "implied_demand", "induced",
+           "inverse", "row", "read_table", "write_table", "page"]
 
 # The rounds that always suffice: of production and impact, and of price and inverse.
 PRODUCTION_BUDGET = 1400
@@ -97,6 +98,8 @@ QUESTIONS: dict[int, str] = {
     15: "does kind 8 come, with no byte after it?",
     16: "are a sector's exports and adjustment together within 1,000,000,000?",
     17: "is the second demand nowhere below the first?",
+    18: "is every sector in exactly one group, no group empty and no bit at n or above set?",
+    19: "is every merged amount, and merged exports and adjustment together, within 1,000,000,000?",
 }
 
 
@@ -192,6 +195,13 @@ class Table(NamedTuple):
         return cls(n, sum(amount != 0 for amounts in cells for amount in amounts), *(amounts[:] for amounts in cells))
 
 
+class Aggregate(NamedTuple):
+    """A table whose sectors are merged, and how many sectors each group took in."""
+
+    table: Table
+    sizes: list[int]
+
+
 class SupportsArray(Protocol):
     """An array of numpy, or what numpy makes one of."""
 
@@ -201,8 +211,10 @@ class SupportsArray(Protocol):
 # What a caller may give; a buffer of numbers counts as a sequence of them.
 Column = Union[Sequence[float], SupportsArray]
 Matrix = Union[Column, Sequence[Column]]
+Groups = Union[Column, Sequence[Union[float, Column]]]
 
 _SECTORS = 40
+_LAST_BIT = 63
 _MARKS = 47
 _FILE = 12883
 _PAGE = 2851
@@ -298,6 +310,26 @@ def _matrix(name: str, cells: "Matrix") -> ctypes.Array:
     if taken.shape[0] != taken.shape[-1]:
         raise ValueError(f"{name} has {taken.shape[0]} rows of {taken.shape[1]} cells: a matrix has as many rows as columns")
     return _copied(taken.packed)
+
+
+def _words(groups: "Groups") -> ctypes.Array:
+    """Groups of sectors for the library: a word each."""
+    if isinstance(groups, Sequence) and not isinstance(groups, (str, bytes, bytearray, memoryview)):
+        groups = [_word(f"groups[{k}]", group) for k, group in enumerate(groups)]
+    return _column("groups", groups)
+
+
+def _word(name: str, group: Any) -> int:
+    """A group as a word with a bit for each sector: given as that word, or by its sectors."""
+    if not hasattr(group, "__len__"):
+        return _whole(name, group)
+    word = 0
+    for k, sector in enumerate(_column(name, group)):
+        bit = 1 << _whole(f"{name}[{k}]", sector, _LAST_BIT)
+        if word & bit:
+            raise ValueError(f"{name} names sector {sector} twice")
+        word |= bit
+    return word
 
 
 def _copied(packed: Any) -> ctypes.Array:
@@ -512,6 +544,55 @@ def coefficients(flows: "Matrix", final_demand: "Column", exports: "Column", imp
     return Coefficients(a[:], v[:], m[:], d[:], f[:])
 
 
+def aggregate(table: Table, groups: "Groups") -> Aggregate:
+    """Merges the sectors of a table: group k of `groups` becomes sector k. Asks 1, 2, 3, 16, 4, 5, 6, 18, 19.
+
+    A group is a list of its sectors, or a word: a whole number in which bit i, that is 2**i, stands for sector i. There are 1 to n groups;
+    question 2 refuses any other number of them. Every sector is in exactly one group, and every group has a sector; otherwise question 18
+    refuses. A list that names a sector twice, or one that no word has a bit for, 64 or above, raises ValueError.
+
+    Cells of merged rows and columns are added. So what the sectors of a group buy from each other is bought by the new sector from itself.
+    The merged table passes questions 1 to 6 and 16, and the totals of its flows and of each column are those before. Question 19 refuses
+    if a sum, or those of exports and adjustment together, is above 1,000,000,000. The rises are no part of merging: in the merged table
+    they are 0, whatever they were. Its `named` counts the cells that are not 0.
+
+    >>> table = Table.of([[10, 20, 30], [5, 40, 15], [25, 10, 50]], final_demand=[50, 80, 90], exports=[20, 30, 45],
+    ...                  imports=[30, 20, 20], value_added=[60, 80, 105], production=[100, 150, 200])
+    >>> merged, sizes = aggregate(table, [[0, 2], [1]])
+    >>> merged.flows, merged.production, sizes
+    ([115, 30, 20, 40], [300, 150], [2, 1])
+    >>> aggregate(table, [0b101, 0b010]) == (merged, sizes)
+    True
+    >>> aggregate(table, [[0, 2], [1, 2]])
+    Traceback (most recent call last):
+    tawqeshim.Refused: question 18, place 0: is every sector in exactly one group, no group empty and no bit at n or above set?
+
+    Question 7 is not asked, so a table that it refuses can be merged too. Nothing is promised of it after merging, or of multipliers:
+    `coefficients` of the merged table may be refused, by question 7 alone, also where those of the table before are accepted. What it
+    gives are figures of their own, as these import shares:
+
+    >>> coefficients(*table[2:9]).imports
+    [272727, 142857, 114286]
+    >>> coefficients(*merged[2:9]).imports
+    [175439, 142857]
+    """
+    given = _table_cells(table, "adjustment")
+    words = _words(groups)
+    g = len(words)
+    merged, sizes = [_new_matrix(g), *(_new_column(g) for _ in given[1:])], _new_column(g)
+    _ask("aggregate", _whole("sectors", table.sectors), *given, words, *merged, sizes)
+    return Aggregate(Table.of(*(cells[:] for cells in merged)), sizes[:])
+
+
+def _table_cells(table: Any, last: str) -> list[ctypes.Array]:
+    """The cells of a table for the library, up to the column of this name."""
+    if not isinstance(table, Table):
+        raise TypeError(f"table is a {type(table).__name__}, not a Table: Table.of makes one of lists")
+    names = Table._fields[3:Table._fields.index(last) + 1]
+    columns = [_column(name, getattr(table, name)) for name in names]
+    return [_matrix("flows", table.flows), *columns]
+
+
 def _settled(call: str, domestic: "Matrix", given: "dict[str, Column]", budget: int, n: Optional[int]) -> tuple[list[int], int]:
     """The amounts and the count of a call that settles the columns given by their names."""
     starts = [_column(name, start) for name, start in given.items()]
@@ -686,11 +767,9 @@ def write_table(table: Table) -> bytes:
     Traceback (most recent call last):
     tawqeshim.Refused: question 3, place 17: is every amount within 1,000,000,000 and every share within one?
     """
-    if not isinstance(table, Table):
-        raise TypeError(f"table is a {type(table).__name__}, not a Table: Table.of makes one of lists")
-    columns = [_column(name, getattr(table, name)) for name in Table._fields[3:]]
+    cells = _table_cells(table, "rises")
     file, length = (ctypes.c_uint8 * _FILE)(), ctypes.c_size_t()
-    _ask("write_table", _whole("sectors", table.sectors), _matrix("flows", table.flows), *columns, file, counts=[length])
+    _ask("write_table", _whole("sectors", table.sectors), *cells, file, counts=[length])
     return bytes(file)[:length.value]
 
 

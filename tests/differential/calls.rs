@@ -9,6 +9,7 @@ pub const PAGE_BYTES: usize = 2_851;
 #[derive(Clone, Copy, Debug, PartialEq, Eq)]
 pub enum Call {
     Coefficients,
+    Aggregate,
     Production,
     Impact,
     Price,
@@ -21,8 +22,9 @@ pub enum Call {
     Page,
 }
 
-pub const CALLS: [Call; 11] = [
+pub const CALLS: [Call; 12] = [
     Call::Coefficients,
+    Call::Aggregate,
     Call::Production,
     Call::Impact,
     Call::Price,
@@ -39,6 +41,7 @@ impl Call {
     pub fn name(self) -> &'static str {
         match self {
             Call::Coefficients => "coefficients",
+            Call::Aggregate => "aggregate",
             Call::Production => "production",
             Call::Impact => "impact",
             Call::Price => "price",
@@ -58,6 +61,7 @@ impl Call {
     pub fn numbers(self) -> &'static [u8] {
         match self {
             Call::Coefficients => &[0, 1, 2, 3, 4, 5, 6, 7, 16],
+            Call::Aggregate => &[0, 1, 2, 3, 4, 5, 6, 16, 18, 19],
             Call::Production | Call::Price => &[0, 1, 2, 7, 8, 9],
             Call::Impact => &[0, 1, 2, 7, 8, 9, 17],
             Call::ImpliedDemand => &[0, 1, 2, 7, 8, 10],
@@ -70,10 +74,11 @@ impl Call {
         }
     }
 
-    /// The exact lengths of the input slices.
+    /// The exact lengths of the input slices. Of groups there may be fewer than n.
     pub fn given_lengths(self, n: usize) -> Vec<usize> {
         match self {
             Call::Coefficients => vec![n * n, n, n, n, n, n, n],
+            Call::Aggregate => vec![n * n, n, n, n, n, n, n, n],
             Call::Production | Call::Price | Call::ImpliedDemand => vec![n * n, n],
             Call::Impact => vec![n * n, n, n],
             Call::Induced => vec![n * n, n, n, n, n],
@@ -83,10 +88,11 @@ impl Call {
         }
     }
 
-    /// The exact lengths of the output and work slices; a file and a page are bytes.
+    /// The exact lengths of the output and work slices; a file and a page are bytes. Of a merged table, n is the number of groups.
     pub fn lent_lengths(self, n: usize) -> Vec<usize> {
         match self {
             Call::Coefficients => vec![n * n, n, n, n * n, n],
+            Call::Aggregate => vec![n * n, n, n, n, n, n, n, n],
             Call::Production | Call::Impact | Call::Price | Call::Induced => vec![n, n],
             Call::ImpliedDemand => vec![n],
             Call::Inverse => vec![n * n, n, n],
@@ -97,6 +103,9 @@ impl Call {
         }
     }
 }
+
+/// Which slice holds the groups, after a table.
+pub const GROUPS: usize = 7;
 
 /// One call: what it is given, and the lengths of the slices it is lent.
 #[derive(Clone, Debug)]
@@ -113,7 +122,7 @@ pub struct Case {
 impl Case {
     /// A case with exact lengths; budget, sector and file are set by who needs them.
     pub fn new(call: Call, n: usize, given: Vec<Vec<u64>>) -> Case {
-        let lent = call.lent_lengths(n);
+        let lent = call.lent_lengths(if call == Call::Aggregate { given[GROUPS].len() } else { n });
         Case { call, n, budget: 0, sector: 0, file: vec![], given, lent }
     }
 
@@ -166,6 +175,7 @@ pub fn by_reference(case: &Case) -> Outcome {
         Call::Coefficients => reference::coefficients(
             *n, &given[0], &given[1], &given[2], &given[3], &given[4], &given[5], &given[6], lent,
         ),
+        Call::Aggregate => reference::aggregate(*n, std::array::from_fn(|k| &given[k][..]), &given[GROUPS], lent),
         Call::Production => reference::production(*n, &given[0], &given[1], *budget, lent),
         Call::Impact => reference::impact(*n, &given[0], &given[1], &given[2], *budget, lent),
         Call::Price => reference::price(*n, &given[0], &given[1], *budget, lent),
@@ -240,6 +250,27 @@ extern "C" {
         m: *mut u64, m_length: usize,
         d: *mut u64, d_length: usize,
         f: *mut u64, f_length: usize,
+        number: *mut u8,
+        place: *mut usize,
+    );
+    fn tawqeshim_aggregate(
+        n: usize,
+        x: *const u64, x_length: usize,
+        final_demand: *const u64, final_demand_length: usize,
+        exports: *const u64, exports_length: usize,
+        imports: *const u64, imports_length: usize,
+        value_added: *const u64, value_added_length: usize,
+        production: *const u64, production_length: usize,
+        adjustment: *const u64, adjustment_length: usize,
+        groups: *const u64, groups_length: usize,
+        merged_x: *mut u64, merged_x_length: usize,
+        merged_final_demand: *mut u64, merged_final_demand_length: usize,
+        merged_exports: *mut u64, merged_exports_length: usize,
+        merged_imports: *mut u64, merged_imports_length: usize,
+        merged_value_added: *mut u64, merged_value_added_length: usize,
+        merged_production: *mut u64, merged_production_length: usize,
+        merged_adjustment: *mut u64, merged_adjustment_length: usize,
+        sizes: *mut u64, sizes_length: usize,
         number: *mut u8,
         place: *mut usize,
     );
@@ -384,6 +415,14 @@ pub fn by_library(case: &Case) -> Result<Outcome, &'static str> {
                 tawqeshim_coefficients(
                     n, g(0), gl(0), g(1), gl(1), g(2), gl(2), g(3), gl(3), g(4), gl(4), g(5), gl(5), g(6), gl(6),
                     l(0), ll(0), l(1), ll(1), l(2), ll(2), l(3), ll(3), l(4), ll(4),
+                    &mut number, &mut place,
+                );
+                counts = [0, 0];
+            }
+            Call::Aggregate => {
+                tawqeshim_aggregate(
+                    n, g(0), gl(0), g(1), gl(1), g(2), gl(2), g(3), gl(3), g(4), gl(4), g(5), gl(5), g(6), gl(6), g(7), gl(7),
+                    l(0), ll(0), l(1), ll(1), l(2), ll(2), l(3), ll(3), l(4), ll(4), l(5), ll(5), l(6), ll(6), l(7), ll(7),
                     &mut number, &mut place,
                 );
                 counts = [0, 0];

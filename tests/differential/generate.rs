@@ -808,6 +808,209 @@ fn coefficients_case(rng: &mut Rng) -> Case {
 }
 
 // ---------------------------------------------------------------------------------------------
+// Tables to be merged
+// ---------------------------------------------------------------------------------------------
+
+/// Groups with every sector in one: single sectors in order, backwards or shuffled, all in one group, neighbours, or any.
+fn partition(rng: &mut Rng, n: usize) -> Vec<u64> {
+    let g = 1 + rng.below(n);
+    let homes: Vec<usize> = match rng.below(8) {
+        0 => (0..n).collect(),
+        1 => (0..n).rev().collect(),
+        2 => permutation(rng, n),
+        3 => vec![0; n],
+        4 => (0..n).map(|sector| sector * g / n).collect(),
+        _ => permutation(rng, n).into_iter().map(|k| if k < g { k } else { rng.below(g) }).collect(),
+    };
+    let mut groups = vec![0; homes.iter().max().map_or(0, |last| last + 1)];
+    homes.iter().enumerate().for_each(|(sector, home)| groups[*home] |= 1 << sector);
+    groups
+}
+
+/// Breaks one thing in the groups. Now and then every sector still is in one.
+fn spoil_groups(rng: &mut Rng, n: usize, groups: &mut Vec<u64>) {
+    let (k, other) = (rng.spot(groups.len()), rng.below(groups.len()));
+    let (sector, second) = (1 << rng.spot(n), 1 << rng.below(n));
+    let bit = n + rng.below(64 - n);
+    let beyond = 1 << rng.of(&[n, 63, bit]);
+    let take_out = |groups: &mut Vec<u64>| groups.iter_mut().for_each(|word| *word &= !sector);
+    match rng.below(11) {
+        // A sector in two groups, or in all.
+        0 => groups[k] |= sector,
+        1 => groups.iter_mut().for_each(|word| *word |= sector),
+        // A sector in no group.
+        2 => take_out(groups),
+        // Another in two groups in its place: there are as many bits as sectors.
+        3 => {
+            take_out(groups);
+            groups[k] |= second;
+        }
+        // A group that is empty, whose sectors are in another.
+        4 => {
+            groups[other] |= groups[k];
+            groups[k] = 0;
+        }
+        // An empty group more.
+        5 => groups.insert(k, 0),
+        // A bit at n or above, beside the sectors or in place of one.
+        6 => groups[k] |= beyond,
+        7 => {
+            take_out(groups);
+            groups[k] |= beyond;
+        }
+        // A group twice.
+        8 => groups[k] = groups[other],
+        // Words with the sum of those before.
+        9 => {
+            let more = rng.upto(2 * sector);
+            groups[k] = groups[k].wrapping_add(more);
+            groups[other] = groups[other].wrapping_sub(more);
+        }
+        _ => groups[k] = strange_cell(rng),
+    }
+}
+
+/// No groups, one more than sectors, or very many.
+fn bend_groups(rng: &mut Rng, n: usize, groups: &mut Vec<u64>) {
+    let other = match rng.below(4) {
+        0 => 0,
+        1 | 2 => n + 1,
+        _ => n + 1 + rng.below(100),
+    };
+    let fill = rng.of(&[0, 1, u64::MAX]);
+    groups.resize(other, fill);
+}
+
+/// As much of an amount as there is room for, in parts.
+fn parts(rng: &mut Rng, whole: u64, room: &[u64]) -> Vec<u64> {
+    let mut left: u64 = room.iter().sum();
+    let mut rest = whole.min(left);
+    let mut parts = Vec::new();
+    for most in room {
+        left -= most;
+        let part = rng.between(rest.saturating_sub(left), rest.min(*most));
+        rest -= part;
+        parts.push(part);
+    }
+    parts
+}
+
+/// X of a sector, with V and M by which its column and its row balance.
+fn set_output(n: usize, table: &mut Table, i: usize, output: u64) {
+    let used = row_sum(table, n, i) + table[FINAL][i] + outflow(table, i);
+    table[OUTPUT][i] = output;
+    table[VALUE][i] = output - column_sum(table, n, i);
+    table[IMPORTS][i] = used - output;
+}
+
+/// A table that balances, in which one sum over a group is 1,000,000,000, one over it or far over it, with no amount of a sector over.
+fn brimming_table(rng: &mut Rng, n: usize, groups: &[u64]) -> Table {
+    let mut table = if rng.chance(1, 2) { zero_table(n) } else { small_table(rng, n) };
+    balance(rng, n, &mut table, AMOUNT);
+    let largest = groups.iter().copied().max_by_key(|word| word.count_ones()).unwrap_or(0);
+    let group = if rng.chance(1, 2) { largest } else { rng.of(groups) };
+    let sectors: Vec<usize> = (0..n).filter(|i| group >> i & 1 == 1).collect();
+    let whole = match rng.below(8) {
+        0..=2 => AMOUNT,
+        3 | 4 => AMOUNT + 1,
+        // What 32 bits would hold of it is small.
+        5 => (1 << 32) + rng.magnitude(AMOUNT),
+        6 => sectors.len() as u64 * AMOUNT,
+        _ => AMOUNT + rng.magnitude(sectors.len() as u64 * AMOUNT),
+    };
+    // What each sector may add to its amounts in a column, so that the group has the whole.
+    let more = |rng: &mut Rng, column: &Vec<u64>| {
+        let before: u64 = sectors.iter().map(|i| column[*i]).sum();
+        let room: Vec<u64> = sectors.iter().map(|i| AMOUNT.saturating_sub(column[*i])).collect();
+        parts(rng, whole.saturating_sub(before), &room)
+    };
+    // X as low as may be.
+    let least = |table: &Table, i: usize| outflow(table, i).max(column_sum(table, n, i));
+    match rng.below(5) {
+        // F, half of it or any part imported.
+        0 => {
+            let half = rng.chance(1, 2);
+            for (part, i) in more(rng, &table[FINAL]).into_iter().zip(&sectors) {
+                table[FINAL][*i] += part;
+                let used = row_sum(&table, n, *i) + table[FINAL][*i] + outflow(&table, *i);
+                let least = least(&table, *i).max(used.saturating_sub(AMOUNT));
+                let most = used.min(AMOUNT).max(least);
+                let output = if half { least.max(used / 2) } else { rng.between(least, most) };
+                set_output(n, &mut table, *i, output.min(used));
+            }
+        }
+        // M, with all imported that may be.
+        1 => {
+            sectors.iter().for_each(|i| {
+                let least = least(&table, *i);
+                set_output(n, &mut table, *i, least);
+            });
+            for (part, i) in more(rng, &table[IMPORTS]).into_iter().zip(&sectors) {
+                table[FINAL][*i] += part;
+                table[IMPORTS][*i] += part;
+            }
+        }
+        // X, with F, E or G.
+        2 => {
+            for (part, i) in more(rng, &table[OUTPUT]).into_iter().zip(&sectors) {
+                for slice in [OUTPUT, VALUE, rng.of(&[FINAL, EXPORTS, ADJUSTMENT])] {
+                    table[slice][*i] += part;
+                }
+            }
+        }
+        // E + G, with nothing else that is made here.
+        3 => {
+            let outflows: Vec<u64> = (0..n).map(|i| outflow(&table, i)).collect();
+            for (part, i) in more(rng, &outflows).into_iter().zip(&sectors) {
+                let exports = rng.upto(part);
+                table[EXPORTS][*i] += exports;
+                table[ADJUSTMENT][*i] += part - exports;
+                let least = least(&table, *i);
+                set_output(n, &mut table, *i, least);
+            }
+        }
+        // x, bought by the sectors of the group from those of any group.
+        _ => {
+            let sellers = rng.of(groups);
+            let sellers: Vec<usize> = (0..n).filter(|i| sellers >> i & 1 == 1).collect();
+            for (part, j) in more(rng, &table[OUTPUT]).into_iter().zip(&sectors) {
+                let i = rng.of(&sellers);
+                for (slice, at) in [(0, i * n + j), (OUTPUT, *j), (IMPORTS, i), (FINAL, *j)] {
+                    table[slice][at] += part;
+                }
+            }
+        }
+    }
+    table
+}
+
+fn aggregate_case(rng: &mut Rng) -> Case {
+    let n = size(rng);
+    let mut groups = partition(rng, n);
+    let mut given = if rng.chance(1, 3) { brimming_table(rng, n, &groups) } else { table(rng, n) };
+    if rng.chance(1, 4) {
+        for _ in 0..rng.between(1, 2) {
+            spoil_table(rng, n, &mut given);
+        }
+    }
+    if rng.chance(1, 4) {
+        for _ in 0..rng.between(1, 2) {
+            spoil_groups(rng, n, &mut groups);
+        }
+    }
+    if rng.chance(1, 20) {
+        bend_groups(rng, n, &mut groups);
+    }
+    given.push(groups);
+    let mut case = Case::new(Call::Aggregate, n, given);
+    // Lent as if no sectors were merged.
+    if rng.chance(1, 30) {
+        case.lent = case.call.lent_lengths(n);
+    }
+    case
+}
+
+// ---------------------------------------------------------------------------------------------
 // Table files
 // ---------------------------------------------------------------------------------------------
 
@@ -1181,7 +1384,7 @@ pub fn case(seed: u64, index: u64) -> Case {
     if index % 2_000 == 0 {
         return slow_case(rng);
     }
-    let mut case = match rng.below(134) {
+    let mut case = match rng.below(150) {
         0..=23 => coefficients_case(rng),
         24..=43 => rounds_case(rng, Call::Production),
         44..=55 => rounds_case(rng, Call::Price),
@@ -1192,6 +1395,7 @@ pub fn case(seed: u64, index: u64) -> Case {
         86..=99 => read_case(rng),
         100..=109 => write_case(rng),
         110..=125 => rounds_case(rng, Call::Impact),
+        126..=141 => aggregate_case(rng),
         _ => page_case(rng),
     };
     let by_size = !matches!(case.call, Call::ReadTable | Call::Page);

@@ -5,7 +5,7 @@
 //! the cells of those slices after the call, in the interface's order, or a refusal.
 
 /// The last number of a question.
-pub const QUESTIONS: usize = 17;
+pub const QUESTIONS: usize = 19;
 pub const ONE: u128 = 1_000_000;
 pub const SECTORS: usize = 40;
 pub const AMOUNT_LIMIT: u128 = 1_000_000_000;
@@ -186,6 +186,44 @@ fn question_17(before: &[u64], after: &[u64]) -> Asked {
     Ok(())
 }
 
+/// Question 18, asked after 6: "18 if a sector is in no group or in two, a group is empty, or a bit at n or above is set". Place 0.
+/// It gives the group of each sector.
+fn question_18(n: usize, groups: &[u64]) -> Result<Vec<usize>, Refusal> {
+    let no = Refusal { number: 18, place: 0 };
+    let mut homes = vec![None; n];
+    for (k, word) in groups.iter().enumerate() {
+        let sectors: Vec<usize> = (0..64).filter(|bit| word >> bit & 1 == 1).collect();
+        if sectors.is_empty() {
+            return Err(no);
+        }
+        for sector in sectors {
+            if sector >= n || homes[sector].is_some() {
+                return Err(no);
+            }
+            homes[sector] = Some(k);
+        }
+    }
+    homes.into_iter().collect::<Option<_>>().ok_or(no)
+}
+
+/// Question 19, asked after 18: "19 if a merged amount exceeds its limit, or E plus G does". Place 0. The table is x, F, E, M, V, X, G.
+fn question_19(merged: &[Vec<u128>]) -> Asked {
+    let (exports, adjustment) = (&merged[2], &merged[6]);
+    let outflows: Vec<u128> = exports.iter().zip(adjustment).map(|(e, g)| e + g).collect();
+    let within = |amounts: &Vec<u128>| amounts.iter().all(|amount| *amount <= AMOUNT_LIMIT);
+    if merged.iter().all(within) && within(&outflows) { Ok(()) } else { refuse(19, 0) }
+}
+
+/// Questions 3, 16, 4, 5 and 6 of a table x, F, E, M, V, X, G.
+fn questions_of_table(n: usize, table: [&[u64]; 7]) -> Asked {
+    let [x, final_demand, exports, imports, value_added, production, adjustment] = table;
+    question_3(&table.map(|slice| (slice, AMOUNT_LIMIT)))?;
+    question_16(exports, adjustment)?;
+    question_4(n, x, value_added, production)?;
+    question_5(n, x, final_demand, exports, imports, production, adjustment)?;
+    question_6(n, x, final_demand, imports)
+}
+
 // ---------------------------------------------------------------------------------------------
 // "The table and its units", "The sheets, all rounded down", "Coefficients to the nearest millionth" (document 02, ticket 6): a, v and m
 // are to the nearest millionth, d and f are rounded down.
@@ -234,19 +272,7 @@ pub fn coefficients(
         (lent[3], n * n),
         (lent[4], n),
     ])?;
-    question_3(&[
-        (x, AMOUNT_LIMIT),
-        (final_demand, AMOUNT_LIMIT),
-        (exports, AMOUNT_LIMIT),
-        (imports, AMOUNT_LIMIT),
-        (value_added, AMOUNT_LIMIT),
-        (production, AMOUNT_LIMIT),
-        (adjustment, AMOUNT_LIMIT),
-    ])?;
-    question_16(exports, adjustment)?;
-    question_4(n, x, value_added, production)?;
-    question_5(n, x, final_demand, exports, imports, production, adjustment)?;
-    question_6(n, x, final_demand, imports)?;
+    questions_of_table(n, [x, final_demand, exports, imports, value_added, production, adjustment])?;
 
     let mut a = vec![0; n * n];
     let mut v = vec![0; n];
@@ -276,6 +302,47 @@ pub fn coefficients(
     }
     question_7(n, &d)?;
     Ok(Given { cells: vec![a, v, m, d, f], counts: [0, 0] })
+}
+
+// ---------------------------------------------------------------------------------------------
+// "Merging sectors" (document 02, ticket 7)
+// ---------------------------------------------------------------------------------------------
+
+/// A table x, F, E, M, V, X, G with its sectors merged. "It asks 1 to 6, with 16 after 3", then 18 and 19. Lent: the merged table and
+/// the groups' sizes.
+pub fn aggregate(n: usize, table: [&[u64]; 7], groups: &[u64], lent: &[usize]) -> Result<Given, Refusal> {
+    question_1(n)?;
+    // "The groups are given as a list of g words, g from 1 to n. Another g fails question 2."
+    let g = groups.len();
+    if !(1..=n).contains(&g) {
+        return Err(Refusal { number: 2, place: 0 });
+    }
+    let mut lengths = vec![(table[0].len(), n * n), (lent[0], g * g)];
+    lengths.extend(table[1..].iter().map(|column| (column.len(), n)));
+    lengths.extend(lent[1..].iter().map(|length| (*length, g)));
+    question_2(&lengths)?;
+    questions_of_table(n, table)?;
+    let homes = question_18(n, groups)?;
+
+    // "Group k becomes sector k. Cells of merged rows and columns are added." Every cell goes to the groups of its row and column.
+    let mut merged: Vec<Vec<u128>> = vec![vec![0; g * g]];
+    for (at, amount) in table[0].iter().enumerate() {
+        let (row, column) = (homes[at / n], homes[at % n]);
+        merged[0][row * g + column] += u128::from(*amount);
+    }
+    for column in &table[1..] {
+        let mut sums = vec![0; g];
+        for (home, amount) in homes.iter().zip(*column) {
+            sums[*home] += u128::from(*amount);
+        }
+        merged.push(sums);
+    }
+    question_19(&merged)?;
+
+    let mut cells: Vec<Vec<u64>> = merged.into_iter().map(|sums| sums.into_iter().map(cell).collect()).collect();
+    // "How many sectors each group took in."
+    cells.push((0..g).map(|k| homes.iter().filter(|home| **home == k).count() as u64).collect());
+    Ok(Given { cells, counts: [0, 0] })
 }
 
 // ---------------------------------------------------------------------------------------------

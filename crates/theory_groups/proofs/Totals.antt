@@ -2,12 +2,12 @@
 use mathlib.Core.List.{List}
 use mathlib.Core.Path.{_≡_, refl, sym, ap, _∙_}
 use Prim.Native.Nat.{ℕ, _+_, _*_, _≤_, _<_}
-use native.Mathlib.Nat.{mul-comm, mul-one, one-mul, mul-zero, mul-add, mul-le-mul-left, mul-le-mul-right, le-trans, le-of-suc-le-suc}
+use native.Mathlib.Nat.{mul-comm, mul-one, mul-zero, mul-add, mul-le-mul-left, le-trans}
 use native.Mathlib.Omega.{arith}
 use lib.ListN.{length}
 use Rattle.model.specs.Numbers.{sum, cell, bit, columnSum, allCells, transposed}
 use Rattle.model.specs.Aggregation.{groupTotal}
-use Rattle.theory.proofs.Bits.{bit-lt}
+use Rattle.theory.proofs.Bits.{bit-takes}
 use Rattle.theory.proofs.Sums.{sum-mono, sum-cong, sum-add, sum-scale, sum-swap, sum-const, sum-most}
 
 -- ---- one group
@@ -32,8 +32,7 @@ module _ (n w : ℕ) where
   -- what sectors of at most b have together
   pub total-most : (b : ℕ) {f : ℕ → ℕ} → ((i : ℕ) → i < n → f i ≤ b) → groupTotal n w f ≤ n * b
   unfolding groupTotal
-  total-most b {f} p =
-      sum-most n b (λ i h. le-trans (mul-le-mul-right (f i) (le-of-suc-le-suc (bit-lt w i))) (omega (arith, p i h)))
+  total-most b {f} p = sum-most n b (λ i h. le-trans (bit-takes w i (f i)) (p i h))
 
   -- of sectors that have nothing
   pub total-none : groupTotal n w (λ _. 0) ≡ 0
