@@ -814,12 +814,12 @@ fn coefficients_case(rng: &mut Rng) -> Case {
 /// Groups with every sector in one: single sectors in order, backwards or shuffled, all in one group, neighbours, or any.
 fn partition(rng: &mut Rng, n: usize) -> Vec<u64> {
     let g = 1 + rng.below(n);
-    let homes: Vec<usize> = match rng.below(8) {
+    let homes: Vec<usize> = match rng.below(12) {
         0 => (0..n).collect(),
         1 => (0..n).rev().collect(),
         2 => permutation(rng, n),
         3 => vec![0; n],
-        4 => (0..n).map(|sector| sector * g / n).collect(),
+        4 | 5 => (0..n).map(|sector| sector * g / n).collect(),
         _ => permutation(rng, n).into_iter().map(|k| if k < g { k } else { rng.below(g) }).collect(),
     };
     let mut groups = vec![0; homes.iter().max().map_or(0, |last| last + 1)];

@@ -1,8 +1,8 @@
 //! The paper's worked cases P1 to P12, its slips and its printed sheet, with the paper's numbers; files
 //! that name one cell or all; the worked table written as a file; tables with an adjustment; what schemes
-//! add; and shares to the nearest millionth.
+//! add; shares to the nearest millionth; and merged tables.
 
-use crate::calls::{Call, Case, Outcome, PAGE_BYTES};
+use crate::calls::{Call, Case, Outcome, GROUPS, PAGE_BYTES};
 use crate::reference::{self, Refusal, AMOUNT_LIMIT, FILE_BYTES, ONE};
 
 // "Worked table and its neighbours"
@@ -97,7 +97,7 @@ pub fn cases() -> Vec<(&'static str, Case, Outcome)> {
     }
     cases.push(("P10", rounds(forward, &D, &[0, 0], 1), accepted(1, &[&[0, 0], &[0, 0]])));
     for n in [0, 41] {
-        let calls = [Call::Coefficients, forward, Call::Impact, prices, back, Call::Induced, Call::Inverse];
+        let calls = [Call::Coefficients, Call::Aggregate, forward, Call::Impact, prices, back, Call::Induced, Call::Inverse];
         for call in calls {
             let given = call.given_lengths(n).iter().map(|length| vec![0; *length]).collect();
             let case = Case { budget: 1, ..Case::new(call, n, given) };
@@ -132,6 +132,11 @@ pub fn cases() -> Vec<(&'static str, Case, Outcome)> {
     cases.extend(impact_cases());
     cases.extend(nearest_cases());
     cases.extend(nearest_pages());
+    cases.extend(merged_cases());
+    cases.extend(groups_cases());
+    cases.extend(merged_limit_cases());
+    cases.extend(merging_order_cases());
+    cases.extend(merged_sheets_cases());
     cases
 }
 
@@ -373,6 +378,255 @@ fn nearest_pages() -> Vec<(&'static str, Case, Outcome)> {
     ]
 }
 
+/// A table x, F, E, M, V, X, G and groups of its sectors.
+fn merging(table: &[Vec<u64>], groups: &[u64]) -> Case {
+    let given = [table, &[groups.to_vec()]].concat();
+    Case::new(Call::Aggregate, table[1].len(), given)
+}
+
+/// A table of three sectors, which balances.
+fn three_sectors() -> Vec<Vec<u64>> {
+    let x = vec![10, 20, 30, 5, 40, 15, 25, 10, 50];
+    let columns = [[50, 80, 90], [20, 25, 45], [30, 20, 20], [60, 80, 105], [100, 150, 200], [0, 5, 0]];
+    [vec![x], columns.map(|column| column.to_vec()).to_vec()].concat()
+}
+
+/// A table without flows, exports and imports: F, V and X are these.
+fn made_and_used(amounts: &[u64]) -> Vec<Vec<u64>> {
+    let (n, amounts) = (amounts.len(), amounts.to_vec());
+    vec![vec![0; n * n], amounts.clone(), vec![0; n], vec![0; n], amounts.clone(), amounts, vec![0; n]]
+}
+
+/// "Merging sectors": merged x, F, E, M, V, X, G and the sizes, by hand.
+fn merged_cases() -> Vec<(&'static str, Case, Outcome)> {
+    let mut cases = Vec::new();
+    let mut yes = |name, table: &[Vec<u64>], groups: &[u64], merged: [&[u64]; 8]| {
+        cases.push((name, merging(table, groups), accepted(0, &merged)));
+    };
+    let (worked, adjusted, three) = (table().given, adjusted().given, three_sectors());
+    yes("merged into one", &worked, &[0b11], [&[1400], &[1400], &[810], &[610], &[1600], &[3000], &[0], &[2]]);
+    yes("an adjustment merged", &adjusted, &[0b11], [&[1400], &[1400], &[810], &[750], &[1600], &[3000], &[140], &[2]]);
+    let ones: &[u64] = &[1, 1];
+    let same: [&[u64]; 8] = [&X, &FINAL_DEMAND, &EXPORTS, &IMPORTS, &VALUE_ADDED, &PRODUCTION, &[0, 0], ones];
+    yes("single sectors", &worked, &[0b01, 0b10], same);
+    let swapped: [&[u64]; 8] =
+        [&[600, 300, 400, 100], &[900, 500], &[560, 250], &[450, 300], &[1000, 600], &[2000, 1000], &[90, 50], ones];
+    yes("single sectors backwards", &adjusted, &[0b10, 0b01], swapped);
+
+    let outer: [&[u64]; 8] =
+        [&[115, 30, 20, 40], &[140, 80], &[65, 25], &[50, 20], &[165, 80], &[300, 150], &[0, 5], &[2, 1]];
+    yes("the outer sectors merged", &three, &[0b101, 0b010], outer);
+    let turned: [&[u64]; 8] =
+        [&[40, 20, 30, 115], &[80, 140], &[25, 65], &[20, 50], &[80, 165], &[150, 300], &[5, 0], &[1, 2]];
+    yes("the outer sectors merged, as the second", &three, &[0b010, 0b101], turned);
+    let last: [&[u64]; 8] = [&[10, 50, 30, 115], &[50, 170], &[20, 70], &[30, 40], &[60, 185], &[100, 350], &[0, 5], &[1, 2]];
+    yes("the last sectors merged", &three, &[0b001, 0b110], last);
+    yes("three merged into one", &three, &[0b111], [&[205], &[220], &[90], &[70], &[245], &[450], &[5], &[3]]);
+    yes("one sector", &made_and_used(&[7]), &[1], [&[0], &[7], &[0], &[0], &[7], &[7], &[0], &[1]]);
+    yes("zeros", &made_and_used(&[0, 0]), &[0b11], [&[0], &[0], &[0], &[0], &[0], &[0], &[0], &[2]]);
+
+    // 40 sectors with 1 to 40: 820 together; the first, third and so on have 400, the others 420.
+    let forty = made_and_used(&(1..=40).collect::<Vec<u64>>());
+    let none: &[u64] = &[0, 0];
+    yes("40 sectors in one", &forty, &[0xff_ffff_ffff], [&[0], &[820], &[0], &[0], &[820], &[820], &[0], &[40]]);
+    let halves: [&[u64]; 8] = [&[0; 4], &[400, 420], none, none, &[400, 420], &[400, 420], none, &[20, 20]];
+    yes("every other of 40 sectors", &forty, &[0x55_5555_5555, 0xaa_aaaa_aaaa], halves);
+    let apart: [&[u64]; 8] = [&[0; 4], &[40, 780], none, none, &[40, 780], &[40, 780], none, &[1, 39]];
+    yes("the last of 40 sectors", &forty, &[0x80_0000_0000, 0x7f_ffff_ffff], apart);
+    cases
+}
+
+/// "18 if a sector is in no group or in two, a group is empty, or a bit at n or above is set", and g from 1 to n.
+fn groups_cases() -> Vec<(&'static str, Case, Outcome)> {
+    let mut cases = Vec::new();
+    let mut no = |name, case: Case, number| {
+        let outcome = refused(&case, number, 0);
+        cases.push((name, case, outcome));
+    };
+    let (two, three) = (table().given, three_sectors());
+    for (name, groups) in [
+        ("a sector in both groups", &[0b11, 0b10][..]),
+        ("both sectors in both groups", &[0b11, 0b11]),
+        ("a sector twice, the other in none", &[0b01, 0b01]),
+        ("a sector in no group", &[0b10]),
+        ("no sector", &[0]),
+        ("an empty group", &[0b11, 0]),
+        ("an empty group first", &[0, 0b11]),
+        ("a bit at n", &[0b01, 0b110]),
+        ("a bit at n in place of a sector", &[0b01, 0b100]),
+        ("a bit at n alone", &[0b11, 0b100]),
+        ("bit 63", &[1 << 63 | 0b11]),
+        ("bit 32", &[0b01, 1 << 32 | 0b10]),
+        ("every bit", &[u64::MAX]),
+    ] {
+        no(name, merging(&two, groups), 18);
+    }
+    for (name, groups) in [
+        ("a sector in three groups", &[0b011, 0b001, 0b101][..]),
+        ("words with the sum of a partition", &[0b011, 0b011, 0b001]),
+        ("as many bits as sectors", &[0b011, 0b001]),
+        ("the middle sector in no group", &[0b001, 0b100]),
+    ] {
+        no(name, merging(&three, groups), 18);
+    }
+    let forty = made_and_used(&[1; 40]);
+    for (name, groups) in [
+        ("bit 40 of 40 sectors", &[0x1ff_ffff_ffff][..]),
+        ("bit 63 of 40 sectors", &[1 << 63 | 0xff_ffff_ffff]),
+        ("bit 63 of 40 sectors, in a group of its own", &[0xff_ffff_ffff, 1 << 63]),
+        ("the last of 40 sectors in no group", &[0x7f_ffff_ffff]),
+        ("the first of 40 sectors in no group", &[0xff_ffff_fffe]),
+    ] {
+        no(name, merging(&forty, groups), 18);
+    }
+    // No groups, and more than sectors.
+    no("no groups", merging(&two, &[]), 2);
+    no("a group more than sectors", merging(&two, &[0b01, 0b10, 0]), 2);
+    no("two groups of one sector", merging(&made_and_used(&[7]), &[1, 1]), 2);
+    no("41 groups", merging(&forty, &(0..41).map(|k| 1 << k).collect::<Vec<u64>>()), 2);
+    no("65 groups", merging(&two, &[1; 65]), 2);
+    cases
+}
+
+/// "19 if a merged amount exceeds its limit, or E plus G does": at the limit and one over it, in two sectors that are merged.
+fn merged_limit_cases() -> Vec<(&'static str, Case, Outcome)> {
+    let mut cases = Vec::new();
+    let mut limit = |name, table: &[Vec<u64>], groups: &[u64], merged: Option<[&[u64]; 8]>| {
+        let case = merging(table, groups);
+        let outcome = merged.map_or_else(|| refused(&case, 19, 0), |merged| accepted(0, &merged));
+        cases.push((name, case, outcome));
+    };
+    // X, with F and V.
+    let at = made_and_used(&[LIMIT - 1, 1]);
+    limit("X at its limit", &at, &[0b11], Some([&[0], &[LIMIT], &[0], &[0], &[LIMIT], &[LIMIT], &[0], &[2]]));
+    limit("X over", &made_and_used(&[LIMIT - 1, 2]), &[0b11], None);
+    limit("X over in the second group", &made_and_used(&[7, LIMIT, 1]), &[0b001, 0b110], None);
+    // X alone: V is less by the unit that the second sector buys from the first, which imports it.
+    let bought = |second: u64| {
+        let columns = [[0, second + 1], [500, 0], [1, 0], [500, second], [500, second + 1], [0, 0]];
+        [vec![vec![0, 1, 0, 0]], columns.map(|column| column.to_vec()).to_vec()].concat()
+    };
+    let within: [&[u64]; 8] = [&[1], &[LIMIT - 500], &[500], &[1], &[LIMIT - 1], &[LIMIT], &[0], &[2]];
+    limit("X alone at its limit", &bought(LIMIT - 501), &[0b11], Some(within));
+    limit("X alone over", &bought(LIMIT - 500), &[0b11], None);
+    // F, of which the second sector imports its part.
+    let imported = |second: u64| {
+        let columns = [[LIMIT - 1, second], [0, 0], [0, second], [LIMIT - 1, 0], [LIMIT - 1, 0], [0, 0]];
+        [vec![vec![0; 4]], columns.map(|column| column.to_vec()).to_vec()].concat()
+    };
+    let within: [&[u64]; 8] = [&[0], &[LIMIT], &[0], &[1], &[LIMIT - 1], &[LIMIT - 1], &[0], &[2]];
+    limit("F at its limit", &imported(1), &[0b11], Some(within));
+    limit("F alone over", &imported(2), &[0b11], None);
+    // M: the first sector buys a unit of itself, exports one, and imports what it uses; the second imports what it uses.
+    let used = |second: u64| {
+        let columns = [[LIMIT - 1, second], [1, 0], [LIMIT, second], [0, 0], [1, 0], [0, 0]];
+        [vec![vec![1, 0, 0, 0]], columns.map(|column| column.to_vec()).to_vec()].concat()
+    };
+    let within: [&[u64]; 8] = [&[1], &[LIMIT - 1], &[1], &[LIMIT], &[0], &[1], &[0], &[2]];
+    limit("M at its limit", &used(0), &[0b11], Some(within));
+    limit("M alone over", &used(1), &[0b11], None);
+    // E and G, one sector each.
+    let outflow = |e: u64, g: u64| outflows(&[e, 0], &[0, g]).given;
+    let within: [&[u64]; 8] = [&[0], &[0], &[LIMIT - 1], &[0], &[LIMIT], &[LIMIT], &[1], &[2]];
+    limit("merged E and G at their limit", &outflow(LIMIT - 1, 1), &[0b11], Some(within));
+    limit("merged E and G over", &outflow(LIMIT - 1, 2), &[0b11], None);
+    limit("merged E and G far over", &outflow(LIMIT, LIMIT), &[0b11], None);
+    // 2^32 + 4 in five sectors; 40 sectors at the limit.
+    limit("a sum beyond 32 bits", &made_and_used(&[858_993_460; 5]), &[0b11111], None);
+    let full = made_and_used(&[LIMIT; 40]);
+    let singles: Vec<u64> = (0..40).map(|sector| 1 << sector).collect();
+    let most: &[u64] = &[LIMIT; 40];
+    let none: &[u64] = &[0; 40];
+    limit("40 sectors at the limit, single", &full, &singles, Some([&[0; 1600], most, none, none, most, most, none, &[1; 40]]));
+    limit("40 sectors at the limit, in one", &full, &[0xff_ffff_ffff], None);
+    cases
+}
+
+/// "It asks 1 to 6, with 16 after 3", then 18 and 19: of several that fail the first is told.
+fn merging_order_cases() -> Vec<(&'static str, Case, Outcome)> {
+    let mut cases = Vec::new();
+    let mut no = |name, case: Case, number, place| {
+        let outcome = refused(&case, number, place);
+        cases.push((name, case, outcome));
+    };
+    // From the last question to the first, always with one thing more that is wrong. Merged, the amounts are over.
+    let (good, bad) = ([0b11], [0b01, 0b01]);
+    let mut wrong = made_and_used(&[LIMIT, 5]);
+    no("19", merging(&wrong, &good), 19, 0);
+    no("18 before 19", merging(&wrong, &bad), 18, 0);
+    no("18 before 19, a bit at n", merging(&wrong, &[0b111]), 18, 0);
+    // Of the second sector's goods 1 is used, and 2 are imported.
+    (wrong[1][1], wrong[E][1], wrong[M][1]) = (1, 6, 2);
+    no("6 before 19", merging(&wrong, &good), 6, 1);
+    no("6 before 18", merging(&wrong, &bad), 6, 1);
+    wrong[E][1] = 7;
+    no("5 before 6", merging(&wrong, &bad), 5, 1);
+    wrong[V][1] = 4;
+    no("4 before 5", merging(&wrong, &bad), 4, 1);
+    wrong[G][1] = LIMIT;
+    no("16 before 4", merging(&wrong, &bad), 16, 1);
+    wrong[G][0] = LIMIT + 1;
+    no("3 before 16", merging(&wrong, &bad), 3, 4 + 5 * 2);
+    no("2 before 3", merging(&wrong, &[]), 2, 0);
+    no("2 before 3, three groups", merging(&wrong, &[0b01, 0b10, 0b11]), 2, 0);
+    for n in [0, 41, usize::MAX] {
+        no("1 before 2", Case { n, ..merging(&wrong, &[]) }, 1, 0);
+    }
+    // Each slice with a cell less and a cell more, the lent ones too; and lent as if no sectors were merged.
+    for (slice, less, more) in (0..16).flat_map(|slice| [(slice, 1, 0), (slice, 0, 1)]) {
+        let mut case = merging(&table().given, &[0b01, 0b10]);
+        if slice <= GROUPS {
+            let length = case.given[slice].len() - less + more;
+            case.given[slice].resize(length, 0);
+        } else {
+            case.lent[slice - GROUPS - 1] += more;
+            case.lent[slice - GROUPS - 1] -= less;
+        }
+        no("a merging with other lengths", case, 2, 0);
+    }
+    let unmerged = Case { lent: Call::Aggregate.lent_lengths(2), ..merging(&table().given, &[0b11]) };
+    no("lent for two groups", unmerged, 2, 0);
+    cases
+}
+
+/// Sheets from merged tables. Question 7 may refuse those of the one and accept those of the other.
+fn merged_sheets_cases() -> Vec<(&'static str, Case, Outcome)> {
+    let mut cases = Vec::new();
+    let sheets = |table: &[&[u64]]| Case::new(Call::Coefficients, table[1].len(), table.iter().map(|cells| cells.to_vec()).collect());
+    let one: [&[u64]; 7] = [&[1400], &[1400], &[810], &[610], &[1600], &[3000], &[0]];
+    let given: [&[u64]; 5] = [&[466_667], &[533_333], &[217_857], &[365_000], &[1905]];
+    cases.push(("the sheets of the worked table in one", sheets(&one), accepted(0, &given)));
+
+    // The first sector buys what the second imports. Merged with the third, which imports nothing, that is no longer told apart.
+    let none: &[u64] = &[0; 3];
+    let (used, made) = ([100, 0, 10_000], [100, 0, 10_000]);
+    let apart: [&[u64]; 7] = [&[0, 0, 0, 98, 0, 0, 0, 0, 0], &used, none, &[0, 98, 0], &[2, 0, 10_000], &made, none];
+    let a: &[u64] = &[0, 0, 0, 980_000, 0, 0, 0, 0, 0];
+    let given: [&[u64]; 5] = [a, &[20_000, 0, 1_000_000], &[0, 1_000_000, 0], &[0; 9], &used];
+    cases.push(("within 7 before merging", sheets(&apart), accepted(0, &given)));
+    let merged: [&[u64]; 8] = [&[0, 0, 98, 0], &[100, 10_000], &[0, 0], &[0, 98], &[2, 10_000], &[100, 10_000], &[0, 0], &[1, 2]];
+    let table: Vec<Vec<u64>> = apart.iter().map(|cells| cells.to_vec()).collect();
+    cases.push(("merged over 7", merging(&table, &[0b001, 0b110]), accepted(0, &merged)));
+    let over = sheets(&merged[..GROUPS]);
+    let seven = refused(&over, 7, 0);
+    cases.push(("over 7 after merging", over, seven));
+
+    // A sector that buys 96 in 100 of itself, merged with one that buys nothing.
+    let million = 1_000_000;
+    let before: [&[u64]; 7] =
+        [&[960_000, 0, 0, 0], &[40_000, million], &[0, 0], &[0, 0], &[40_000, million], &[million, million], &[0, 0]];
+    let over = sheets(&before);
+    let seven = refused(&over, 7, 0);
+    cases.push(("over 7 before merging", over, seven));
+    let (kept, made) = ([1_040_000], [2_000_000]);
+    let merged: [&[u64]; 8] = [&[960_000], &kept, &[0], &[0], &kept, &made, &[0], &[2]];
+    let table: Vec<Vec<u64>> = before.iter().map(|cells| cells.to_vec()).collect();
+    cases.push(("merged within 7", merging(&table, &[0b11]), accepted(0, &merged)));
+    let given: [&[u64]; 5] = [&[480_000], &[520_000], &[0], &[480_000], &kept];
+    cases.push(("within 7 after merging", sheets(&merged[..GROUPS]), accepted(0, &given)));
+    cases
+}
+
 /// "How many cells were named", of 40 sectors: each cell alone, named as 0, and then all of them.
 fn named_cases() -> Vec<(&'static str, Case, Outcome)> {
     let sectors = 1..=40;
@@ -531,6 +785,7 @@ pub fn slips() -> Vec<(&'static str, bool)> {
     slips.push(("the counts added", count(&F) + count(&more) == 19 && right));
 
     slips.extend(nearest_slips());
+    slips.extend(merging_slips());
     slips.push(("91 bytes", file().len() == 91));
     slips.push(("the printed sheet", reference::page(&file()) == PRINTED.as_bytes()));
     slips.push(("the empty page", reference::page(&[]) == b"refused 15 0\n"));
@@ -566,6 +821,24 @@ fn nearest_slips() -> Vec<(&'static str, bool)> {
         ("d to the nearest too", nearest(999_685 * 950_300) == 950_001 && still),
         ("f to the nearest too", nearest(999_685 * 49_000) + 1_015 == 50_000 && still),
         ("one less m by itself", by_itself == one && by_itself * 950_001 / one == 950_001 && complement),
+    ]
+}
+
+/// The worked table in one sector, with coefficients or shares merged in place of amounts, or without what its sectors sell each other.
+fn merging_slips() -> Vec<(&'static str, bool)> {
+    let one = ONE as u64;
+    let worked = table().given;
+    let merged = reference::aggregate(2, std::array::from_fn(|k| &worked[k][..]), &[0b11], &[1; 8]);
+    let [x, f, e, m, v, output, g] = std::array::from_fn(|k| merged.as_ref().map_or(vec![], |given| given.cells[k].clone()));
+    let sheets = reference::coefficients(1, &x, &f, &e, &m, &v, &output, &g, &[1; 5]).map(|given| given.cells.concat());
+    let right = sheets == Ok(vec![466_667, 533_333, 217_857, 365_000, 1905]);
+    let shares = |cells: [u64; 2]| (cells[0] + cells[1]) / 2;
+    let inside = X[1] + X[2];
+    vec![
+        ("coefficients added", X[0] * one / 1000 + X[1] * one / 2000 + X[2] * one / 1000 + X[3] * one / 2000 == 900_000 && right),
+        ("import shares averaged", shares([250_000, 200_000]) == 225_000 && right),
+        ("value shares averaged", shares([600_000, 500_000]) == 550_000 && right),
+        ("flows between the merged sectors left out", 1400 - inside == 700 && x == [1400]),
     ]
 }
 

@@ -1,85 +1,95 @@
+-- `aggregate_totals::fill_columns` meets its contract: the columns before l are those of the merged flows. Assumes nothing.
+use mathlib.Core.List.{[]}
+use mathlib.Core.Path.{_≡_, _∙_}
+use Prim.Native.Nat.{ℕ, _*_, _-_, _≤_, _<_}
+use native.Mathlib.Nat.{not-suc-le-zero}
+use native.Mathlib.Omega.{arith}
+use borrow.Author.Count.{below-more}
+use lib.ListN.{length}
+use Rattle.model.specs.Numbers.{at, cell}
+use Rattle.model.specs.Table.{tableOf}
+use Rattle.model.specs.Aggregation.{mergedFlow}
+use Rattle.theory.proofs.Matrices.{matrix-made}
+use Rattle.aggregate_totals.proofs.FlowLaws.{purchase-small, merged-purchases}
 use Rattle.aggregate_totals.proofs.fill_columns.Statement.{statement}
 use Rattle.aggregate_totals.proofs.fill_columns.Tie as tie
-use Rattle.aggregate_totals.proofs.fill_columns.Reads as reads
-use Rattle.aggregate_totals.proofs.fill_columns.Lts as lts
-use Rattle.aggregate_totals.proofs.fill_column.Reads as fill-column-reads
-use Rattle.aggregate_totals.proofs.fill_purchases.Reads as fill-purchases-reads
-use Rattle.cells.proofs.put_column.Reads as put-column-reads
 
 abbrev Inv-loop : tie.InvT-loop
-Inv-loop n x groups purchases₀ column₀ merged₀ l₀ l-end purchases column merged l = ?
+Inv-loop n x groups purchases₀ column₀ merged₀ l₀ end purchases column merged l =
+    let g = length groups in
+    (l ≤ g) × (length purchases ≡ n) × (length column ≡ g) × (length merged ≡ g * g)
+    × ((k j : ℕ) → k < g → j < l → at g merged k j ≡ mergedFlow (tableOf n x []) groups k j)
 
 abbrev μ-loop : tie.MeasureT-loop
-μ-loop n x groups purchases₀ column₀ merged₀ l₀ l-end purchases column merged l = ?
+μ-loop n x groups purchases₀ column₀ merged₀ l₀ end purchases column merged l = length groups - l
 
--- src/lib.rt:80:5
+abbrev entry : tie.At-loop Inv-loop μ-loop → tie.Start Inv-loop μ-loop
+entry p = p .before .before .before .before .before .before
+
+-- the place at which the group's purchases are known, from where they were merged
+abbrev bought : tie.After-fill-column Inv-loop μ-loop → tie.After-fill-purchases Inv-loop μ-loop
+bought q = q .before .before .before .before .before
+
+abbrev head : tie.After-fill-purchases Inv-loop μ-loop → tie.At-loop Inv-loop μ-loop
+head b = b .before .before .before .before
+
 loop-holds : tie.Need-loop-holds Inv-loop μ-loop
-loop-holds c = ?
+loop-holds c =
+    let z = c .before .before .before .before .before .pre .0 in
+    (omega arith, z .4, z .5, z .6, λ k j h l. absurd (not-suc-le-zero l))
 
--- src/lib.rt:81:30
-mul-fill-purchases : tie.Need-mul-fill-purchases Inv-loop μ-loop
-mul-fill-purchases c = ?
-
--- src/lib.rt:81:30
-shared-slice-read-fill-purchases : tie.Need-shared-slice-read-fill-purchases Inv-loop μ-loop
-shared-slice-read-fill-purchases c = ?
-
--- src/lib.rt:81:9
-fill-purchases-requires : tie.Need-fill-purchases-requires Inv-loop μ-loop
-fill-purchases-requires c κs = ?
-
--- src/lib.rt:82:9
-fill-column-requires : tie.Need-fill-column-requires Inv-loop μ-loop
-fill-column-requires c κs = ?
-
--- src/lib.rt:83:9
-put-column-requires : tie.Need-put-column-requires Inv-loop μ-loop
-put-column-requires c κs = ?
-
--- src/lib.rt:80:9
-add-l : tie.Need-add-l Inv-loop μ-loop
-add-l c = ?
-
--- src/lib.rt:80:5
-loop-less : tie.Need-loop-less Inv-loop μ-loop
-loop-less c = ?
-
--- src/lib.rt:80:5
 loop-again : tie.Need-loop-again Inv-loop μ-loop
-loop-again c = ?
+loop-again c =
+    let r = c .before .before in
+    let q = r .before .before .before .before .before in
+    let b = bought q in
+    let p = head b in
+    let a = entry p .args in
+    let g = length (a .groups .now) in
+    let l = p .loop in
+    let flows = mergedFlow (tableOf (a .n) (a .x .now) []) (a .groups .now) in (
+      omega (arith, b .before .before .before .loop-test .taken),
+      b .fill-purchases .kept .1 .1 .1 .0 ∙ l .inv .1,
+      q .fill-column .kept .1 .1 .1 .0 ∙ l .inv .2,
+      r .put-column .kept .1 .1 .1 .0 ∙ l .inv .3,
+      λ k j h. below-more (λ j. at g (r .put-column .last .1 .1 .1 .0) k j ≡ flows k j) (l .l)
+          (λ j lt. r .put-column .ensures .1 k j lt ∙ l .inv .4 k j h lt)
+          (r .put-column .ensures .0 k h ∙ merged-purchases (a .n) (cell (a .groups .now) (l .l)) (a .x .now) (b .fill-purchases .ensures) (a .groups .now) (q .fill-column .ensures) k h) j,
+    )
 
--- src/lib.rt:68:1
-same-length : tie.Need-same-length Inv-loop μ-loop
-same-length c = ?
-
--- src/lib.rt:68:1
-same-length-2 : tie.Need-same-length-2 Inv-loop μ-loop
-same-length-2 c = ?
-
--- src/lib.rt:68:1
-same-length-3 : tie.Need-same-length-3 Inv-loop μ-loop
-same-length-3 c = ?
-
--- src/lib.rt:68:1
 returns : tie.Need-returns Inv-loop μ-loop
-returns c = ?
+returns c =
+    let p = c .before in
+    let s = entry p in
+    let g = length (s .args .groups .now) in
+    matrix-made g (mergedFlow (tableOf (s .args .n) (s .args .x .now) []) (s .args .groups .now)) (p .loop .merged) (s .pre .0 .2) (p .loop .inv .3)
+    (λ k j h l. p .loop .inv .4 k j h (omega (arith, c .loop-test .left)))
+
+fill-purchases-requires : tie.Need-fill-purchases-requires Inv-loop μ-loop
+fill-purchases-requires c κs =
+    let p = c .before .before .before in
+    let s = entry p in
+    ((s .pre .0 .0, s .pre .0 .1, p .loop .inv .1), s .pre .1)
+
+fill-column-requires : tie.Need-fill-column-requires Inv-loop μ-loop
+fill-column-requires c κs =
+    let b = c .before .before .before .before in
+    let p = head b in
+    let s = entry p in
+    let a = s .args in (
+      (s .pre .0 .0, b .fill-purchases .kept .1 .1 .1 .0 ∙ p .loop .inv .1, p .loop .inv .2),
+      purchase-small (a .n) (cell (a .groups .now) (p .loop .l)) (a .x .now) (b .fill-purchases .ensures) (s .pre .0 .0) (s .pre .1),
+    )
+
+put-column-requires : tie.Need-put-column-requires Inv-loop μ-loop
+put-column-requires c κs =
+    let q = c .before .before .before .before in
+    let p = head (bought q) in
+    (p .loop .inv .3, q .fill-column .kept .1 .1 .1 .0 ∙ p .loop .inv .2, bought q .before .before .before .loop-test .taken)
 
 pub fill-columns-spec : {M : Type 1} → statement M
 fill-columns-spec =
     tie.close
     (tie.spec
-    Inv-loop
-    μ-loop
-    loop-holds
-    mul-fill-purchases
-    shared-slice-read-fill-purchases
-    fill-purchases-requires
-    fill-column-requires
-    put-column-requires
-    add-l
-    loop-less
-    loop-again
-    same-length
-    same-length-2
-    same-length-3
-    returns)
+    Inv-loop μ-loop loop-holds (λ c. omega arith) (λ c. omega arith) fill-purchases-requires fill-column-requires put-column-requires (λ c. omega arith) (λ c. omega arith) loop-again
+    (λ c. omega arith) (λ c. omega arith) (λ c. omega arith) returns)
