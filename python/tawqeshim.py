@@ -69,7 +69,7 @@ from array import array
 from collections.abc import Mapping, Sequence, Set
 from numbers import Integral
 from pathlib import Path
-from typing import Any, NamedTuple, NoReturn, Optional, Protocol, Union
+from typing import Any, Callable, NamedTuple, NoReturn, Optional, Protocol, Union
 
 __version__ = "3.0.0"
 __all__ = ["PRODUCTION_BUDGET", "PRICE_BUDGET", "QUESTIONS", "Refused", "Coefficients", "Production", "Impact", "Prices", "Induced",
@@ -313,14 +313,12 @@ def _matrix(name: str, cells: "Matrix") -> ctypes.Array:
 
 
 def _words(groups: "Groups") -> ctypes.Array:
-    """Groups of sectors for the library: a word each."""
-    if isinstance(groups, Sequence) and not isinstance(groups, (str, bytes, bytearray, memoryview)):
-        groups = [_word(f"groups[{k}]", group) for k, group in enumerate(groups)]
-    return _column("groups", groups)
+    """Groups of sectors for the library, a word each."""
+    return _copied(_taken("groups", groups, 1, _word).packed)
 
 
 def _word(name: str, group: Any) -> int:
-    """A group as a word with a bit for each sector: given as that word, or by its sectors."""
+    """A group as a word with a bit for each sector: it is given as that word, or by its sectors."""
     if not hasattr(group, "__len__"):
         return _whole(name, group)
     word = 0
@@ -336,15 +334,15 @@ def _copied(packed: Any) -> ctypes.Array:
     return (ctypes.c_uint64 * (memoryview(packed).nbytes // 8)).from_buffer_copy(packed)
 
 
-def _taken(name: str, cells: Any, dimensions: int) -> _Cells:
-    """The cells of what a caller gives, each checked, in at most so many dimensions."""
+def _taken(name: str, cells: Any, dimensions: int, cell: Callable[[str, Any], int] = _whole) -> _Cells:
+    """The cells of what a caller gives, each checked, in at most so many dimensions. `cell` makes a number of one, or an error."""
     if isinstance(cells, (list, tuple)):
-        return _from_sequence(name, cells, dimensions)
+        return _from_sequence(name, cells, dimensions, cell)
     if isinstance(cells, (str, bytes, bytearray, Mapping, Set)):
         raise TypeError(f"{name} is a {type(cells).__name__}, whose members are no cells in order")
     numpy = sys.modules.get("numpy")
     if numpy and (hasattr(cells, "__array__") or hasattr(cells, "__array_interface__")):
-        return _from_array(name, cells, dimensions, numpy)
+        return _from_array(name, cells, dimensions, numpy, cell)
     try:
         view = memoryview(cells)
     except TypeError:
@@ -352,16 +350,16 @@ def _taken(name: str, cells: Any, dimensions: int) -> _Cells:
     if view is not None:
         return _from_buffer(name, view, dimensions)
     if isinstance(cells, Sequence):
-        return _from_sequence(name, list(cells), dimensions)
+        return _from_sequence(name, list(cells), dimensions, cell)
     raise TypeError(f"{name} is a {type(cells).__name__}, not a sequence, buffer or array of numbers")
 
 
-def _from_sequence(name: str, cells: Sequence, dimensions: int) -> _Cells:
+def _from_sequence(name: str, cells: Sequence, dimensions: int, cell: Callable[[str, Any], int]) -> _Cells:
     """Cells of a list or a tuple. If matrices are allowed and its first member has a length, its members are rows."""
     if dimensions == 2 and cells and hasattr(cells[0], "__len__"):
         return _from_rows(name, cells)
     shape = (len(cells),)
-    return _Cells(_packed(name, cells, shape), shape)
+    return _Cells(_packed(name, cells, shape, cell), shape)
 
 
 def _from_rows(name: str, rows: Sequence) -> _Cells:
@@ -394,7 +392,7 @@ def _native_code(view: memoryview) -> Optional[str]:
     return code if letter.isupper() else code.lower()
 
 
-def _from_array(name: str, given: Any, dimensions: int, numpy: Any) -> _Cells:
+def _from_array(name: str, given: Any, dimensions: int, numpy: Any, cell: Callable[[str, Any], int]) -> _Cells:
     """Cells of an array, all of them checked and converted at once by numpy."""
     cells = numpy.asarray(given)
     _check_dimensions(name, cells.ndim, dimensions)
@@ -403,7 +401,7 @@ def _from_array(name: str, given: Any, dimensions: int, numpy: Any) -> _Cells:
         raise ValueError(f"{_place(name, cells.shape, masked)} is masked")
     kind = cells.dtype.kind
     if kind == "O":
-        return _from_sequence(name, cells.tolist(), dimensions)
+        return _from_sequence(name, cells.tolist(), dimensions, cell)
     if kind not in "iuf":
         raise TypeError(f"{name} is an array of {cells.dtype}, not of numbers")
     if kind != "u":
@@ -438,14 +436,14 @@ def _place(name: str, shape: tuple[int, ...], k: int) -> str:
     return f"{name}[{k}]" if len(shape) == 1 else f"{name}[{k // shape[1]}][{k % shape[1]}]"
 
 
-def _packed(name: str, numbers: Any, shape: tuple[int, ...]) -> array:
+def _packed(name: str, numbers: Any, shape: tuple[int, ...], cell: Callable[[str, Any], int] = _whole) -> array:
     """A list or an array of numbers as unsigned 64-bit numbers, each checked."""
     if set(map(type, numbers)) <= {int}:
         try:
             return array("Q", numbers)
         except OverflowError:
             pass  # the number is named below
-    return array("Q", [_whole(_place(name, shape, k), number) for k, number in enumerate(numbers)])
+    return array("Q", [cell(_place(name, shape, k), number) for k, number in enumerate(numbers)])
 
 
 # ---- calls

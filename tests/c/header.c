@@ -1,6 +1,7 @@
 /*
- * Tests of include/tawqeshim.h: its constants against what the library accepts and refuses, how shares are rounded, the questions' texts,
- * the version, and the functions that go by names. tests/run compiles it as C99 and as C++, with every warning an error.
+ * Tests of include/tawqeshim.h: its constants against what the library accepts and refuses, how shares are rounded, how sectors are merged,
+ * the questions' texts, the version, and the functions that go by names. tests/run compiles it as C99 and as C++, with every warning an
+ * error.
  */
 #include "tawqeshim.h"
 
@@ -37,11 +38,13 @@ static void questions(void) {
         for (int other = 1; other < k; other++)
             expect(strcmp(text, tawqeshim_question((uint8_t)other)) != 0, "two questions have one text");
     }
-    expect(TAWQESHIM_REFUSED_LOWER_DEMAND == TAWQESHIM_QUESTIONS, "the last question is not the last number");
+    expect(TAWQESHIM_REFUSED_MERGED_AMOUNT == TAWQESHIM_QUESTIONS, "the last question is not the last number");
     expect(strcmp(tawqeshim_question(TAWQESHIM_REFUSED_ROUNDS), "do the rounds settle within the budget?") == 0, "the text of question 9");
     expect(strcmp(tawqeshim_question(TAWQESHIM_REFUSED_END), "does kind 8 come, with no byte after it?") == 0, "the text of question 15");
     expect(strstr(tawqeshim_question(TAWQESHIM_REFUSED_EXPORTS), "exports and adjustment") != NULL, "the text of question 16");
     expect(strstr(tawqeshim_question(TAWQESHIM_REFUSED_LOWER_DEMAND), "second demand") != NULL, "the text of question 17");
+    expect(strstr(tawqeshim_question(TAWQESHIM_REFUSED_GROUPS), "exactly one group") != NULL, "the text of question 18");
+    expect(strstr(tawqeshim_question(TAWQESHIM_REFUSED_MERGED_AMOUNT), "every merged amount") != NULL, "the text of question 19");
 }
 
 /* One sector, whose coefficient, demand and rise may be at a limit or one over it. */
@@ -171,6 +174,61 @@ static void limits(void) {
     answers(TAWQESHIM_REFUSED_AMOUNT, 1, "a share over its limit");
     induce(0, TAWQESHIM_AMOUNT_LIMIT + 1);
     answers(TAWQESHIM_REFUSED_AMOUNT, 3, "an amount over its limit");
+}
+
+/* Two sectors, of whose goods this is made and used, merged into g groups. So many cells are lent for x, and for the rest. */
+static uint64_t merged[8][10];
+static void merge(uint64_t first, uint64_t second, const uint64_t *groups, size_t g, size_t cells, size_t rest) {
+    const uint64_t x[4] = {0, 0, 0, 0}, none[2] = {0, 0};
+    const uint64_t amounts[2] = {first, second};
+    memset(merged, 7, sizeof merged);
+    tawqeshim_aggregate(2, x, 4, amounts, 2, none, 2, none, 2, amounts, 2, amounts, 2, none, 2, groups, g, merged[0], cells,
+                        merged[1], rest, merged[2], rest, merged[3], rest, merged[4], rest, merged[5], rest, merged[6], rest,
+                        merged[7], rest, &number, &place);
+}
+
+/* Everything lent is 0, and nothing else. */
+static int nothing_merged(size_t cells, size_t rest) {
+    for (size_t k = 0; k < 8; k++)
+        for (size_t i = 0; i < 10; i++)
+            if ((merged[k][i] == 0) != (i < (k == 0 ? cells : rest)))
+                return 0;
+    return 1;
+}
+
+static void merging(void) {
+    const uint64_t limit = TAWQESHIM_AMOUNT_LIMIT, high = (uint64_t)1 << 63;
+    const uint64_t both[1] = {3}, backwards[2] = {2, 1};
+    merge(limit - 1, 1, both, 1, 1, 1);
+    answers(TAWQESHIM_ACCEPTED, 0, "merged amounts at their limit");
+    expect(merged[0][0] == 0 && merged[1][0] == limit && merged[4][0] == limit && merged[5][0] == limit && merged[7][0] == 2,
+           "two sectors merged");
+    merge(5, 9, backwards, 2, 4, 2);
+    answers(TAWQESHIM_ACCEPTED, 0, "single sectors");
+    expect(merged[1][0] == 9 && merged[1][1] == 5 && merged[7][0] == 1 && merged[7][1] == 1, "single sectors backwards");
+    merge(limit - 1, 2, both, 1, 1, 1);
+    answers(TAWQESHIM_REFUSED_MERGED_AMOUNT, 0, "merged amounts over their limit");
+    expect(nothing_merged(1, 1), "a merging that is refused with 19 is not 0");
+
+    const uint64_t wrong[8][2] = {{3, 2}, {1, 1}, {3, 0}, {0, 3}, {1, 6}, {1, 4}, {1, 2 | high}, {high, 3}};
+    for (size_t k = 0; k < 8; k++) {
+        merge(limit, limit, wrong[k], 2, 4, 2);
+        answers(TAWQESHIM_REFUSED_GROUPS, 0, "groups with a sector twice or not at all, without one, or with a bit at n or above");
+        expect(nothing_merged(4, 2), "a merging that is refused with 18 is not 0");
+    }
+    const uint64_t groups[3] = {1, 2, 0};
+    for (size_t g = 0; g <= 3; g += 3) {
+        merge(5, 9, groups, g, g * g, g);
+        answers(TAWQESHIM_REFUSED_LENGTH, 0, "no groups, or more than sectors");
+        expect(nothing_merged(g * g, g), "a merging that is refused with 2 is not 0");
+    }
+    merge(5, 9, groups, 2, 3, 2);
+    answers(TAWQESHIM_REFUSED_LENGTH, 0, "a cell of the merged x less");
+    merge(5, 9, groups, 2, 4, 3);
+    answers(TAWQESHIM_REFUSED_LENGTH, 0, "a cell of each merged column more");
+    expect(nothing_merged(4, 3), "a merging into other lengths is not 0");
+    merge(limit + 1, limit + 1, wrong[0], 2, 4, 2);
+    answers(TAWQESHIM_REFUSED_AMOUNT, 4, "an amount over its limit, with groups that are wrong");
 }
 
 static uint64_t sheet[TAWQESHIM_CELLS + 1], inverse[TAWQESHIM_CELLS + 1];
@@ -345,6 +403,19 @@ static void by_names(void) {
     tawqeshim_table_file(2, &table, rises, archive, &number, &place, &count);
     expect(count == 103 && memcmp(archive + 90, end, 13) == 0, "the file of the table with an adjustment");
 
+    /* Both sectors of it merged, and the sheets of what that gives. */
+    const uint64_t both[1] = {3};
+    uint64_t one[8];
+    const struct tawqeshim_merged in_one = {&one[0], &one[1], &one[2], &one[3], &one[4], &one[5], &one[6], &one[7]};
+    tawqeshim_table_aggregate(2, &table, 1, both, &in_one, &number, &place);
+    answers(TAWQESHIM_ACCEPTED, 0, "the table with an adjustment, merged");
+    expect(one[0] == 1400 && one[1] == 1400 && one[2] == 810 && one[3] == 750, "merged flows, final demand, exports and imports");
+    expect(one[4] == 1600 && one[5] == 3000 && one[6] == 140 && one[7] == 2, "merged value added, production, adjustment, and the size");
+    const struct tawqeshim_table smaller = tawqeshim_merged_table(&in_one);
+    tawqeshim_table_sheets(1, &smaller, &sheets, &number, &place);
+    answers(TAWQESHIM_ACCEPTED, 0, "the sheets of a merged table");
+    expect(a[0] == 466667 && v[0] == 533333 && m[0] == 267857 && d[0] == 341666 && f[0] == 1975, "the figures of a merged table");
+
     size_t start, length;
     tawqeshim_row(2, flows, 4, 1, &start, &length);
     expect(start == 2 && length == 2, "a row");
@@ -357,10 +428,11 @@ int main(void) {
     questions();
     limits();
     nearest();
+    merging();
     sizes();
     files();
     by_names();
     if (failures == 0)
-        printf("header: constants, questions, rounding and names as the library has them\n");
+        printf("header: constants, questions, rounding, merging and names as the library has them\n");
     return failures != 0;
 }

@@ -1,6 +1,6 @@
 """Tests of python/tawqeshim.py: refusals, what it takes as cells and what it does not, how shares are rounded, what schemes add, the
-slowest sheets, its library, the worked table from its file to its page, and tables written as files. Tests of numpy and pandas are skipped
-where these are not installed."""
+slowest sheets, its library, the worked table from its file to its page, tables written as files, and merged tables. Tests of numpy and
+pandas are skipped where these are not installed."""
 import ctypes
 import doctest
 import inspect
@@ -76,6 +76,8 @@ class Refusals(Refusing):
         self.refused(9, 0, t.production, DOMESTIC, DEMAND, 8)
         self.refused(17, 1, t.impact, DOMESTIC, DEMAND, [626, 1279])
         self.refused(10, 0, t.implied_demand, DOMESTIC, [0, 1000])
+        self.refused(18, 0, t.aggregate, t.Table.of(**table()), [[0], [0, 1]])
+        self.refused(19, 0, t.aggregate, t.Table.of([0] * 4, [10**9, 1], [0, 0], [0, 0], [10**9, 1], [10**9, 1]), [[0, 1]])
         for number, place, file in [(11, 2, [1, 2, 11]), (11, 2, [1, 2, 10, 1, 0, 0, 0]), (12, 0, [1, 41]),
                                     (13, 2, [1, 2, 3, 3, 0, 0, 0, 1]), (13, 2, [1, 2, 10, 3, 0, 0, 0, 1]),
                                     (14, 8, [1, 2] + [10, 1, 0, 0, 0, 1] * 2), (14, 8, [1, 2] + [3, 1, 0, 0, 0, 1] * 2), (15, 0, [])]:
@@ -358,8 +360,35 @@ class Numpy(Given):
         self.assertEqual(t.row(numpy.array(ROWS), 1), ROWS[1])
 
 
+    def test_groups(self):
+        merged = t.aggregate(Merging.THREE, [[0, 2], [1]])
+        for groups in (*(numpy.array([5, 2], dtype=code) for code in ("u8", "i8", "i2", ">i4", "f8", "O")), list(numpy.array([5, 2])),
+                       *([numpy.array([0, 2], dtype=code), [1]] for code in ("u8", "i2", "f4", "O")),
+                       [numpy.arange(0, 3, 2), numpy.uint64(2)], numpy.array([[0, 2], [1]], dtype=object)):
+            self.assertEqual(t.aggregate(Merging.THREE, groups), merged)
+        for error, text, groups in [(ValueError, "groups has 2 dimensions, not 1$", numpy.array([[0, 2], [1, 1]])),
+                                    (ValueError, r"groups\[1\] is -2, below 0$", numpy.array([5, -2])),
+                                    (ValueError, r"groups\[0\]\[1\] is -2, below 0$", [numpy.array([0, -2]), [1]]),
+                                    (ValueError, r"groups\[0\]\[1\] is 64, above 63$", [numpy.array([0, 64]), [1]]),
+                                    (ValueError, r"groups\[0\]\[1\] is masked$", [numpy.ma.array([0, 2], mask=[False, True]), [1]]),
+                                    (ValueError, r"groups\[0\] has 0 dimensions, not 1$", [numpy.array(5), 2]),
+                                    (TypeError, r"groups\[0\] is an array of bool, ", [numpy.array([True, False]), [1]]),
+                                    (TypeError, r"groups\[0\] is .*, not a whole number$", [numpy.True_, 2])]:
+            with self.assertRaisesRegex(error, f"^{text}"):
+                t.aggregate(Merging.THREE, groups)
+
+
 @unittest.skipUnless(pandas, "pandas is not installed")
 class Pandas(Given):
+    def test_groups(self):
+        merged = t.aggregate(Merging.THREE, [[0, 2], [1]])
+        named = pandas.DataFrame({"sector": [0, 1, 2], "group": ["a", "b", "a"]}).groupby("group")
+        for groups in (pandas.Series([5, 2]), pandas.Series([[0, 2], [1]], index=["a", "b"]), [pandas.Series([0, 2]), pandas.Index([1])],
+                       named["sector"].apply(list), list(named.indices.values())):
+            self.assertEqual(t.aggregate(Merging.THREE, groups), merged)
+        with self.assertRaisesRegex(ValueError, "^groups has 2 dimensions, not 1$"):
+            t.aggregate(Merging.THREE, pandas.DataFrame([[0, 2], [1, 1]]))
+
     def test_series_and_frames(self):
         self.taken(pandas.Series(DEMAND), pandas.Series(DEMAND, index=["b", "a"]), pandas.Series(DEMAND, index=[1, 0]),
                    pandas.Series(DEMAND, dtype="float64"), pandas.Series(DEMAND, dtype="Int64"), pandas.Series(DEMAND, dtype="UInt32"),
@@ -466,6 +495,194 @@ class Schemes(unittest.TestCase):
         for demand in (DEMAND, [0, 0], [2_000_000_000, 1]):
             self.assertEqual(t.impact(DOMESTIC, demand, demand), ([0, 0], t.production(DOMESTIC, demand).rounds))
         self.assertEqual(t.impact(DOMESTIC, DEMAND, DEMAND, 9), ([0, 0], 9))
+
+
+class Merging(Refusing):
+    """Tables whose sectors are merged."""
+
+    WORKED = t.Table(2, 14, FLOWS, *COLUMNS, [0, 0], [0, 0])
+    THREE = t.Table.of([[10, 20, 30], [5, 40, 15], [25, 10, 50]], [50, 80, 90], [20, 25, 45], [30, 20, 20], [60, 80, 105],
+                       [100, 150, 200], [0, 5, 0], [7, 8, 9])
+    FILE = (ROOT / "examples/sectors37.table").read_bytes()
+    THIRTEEN = [[0], [1], range(2, 20), [20], [21, 22, 23], [24], [25], [26], [27], [28], [29], range(30, 36), [36]]
+
+    def by_hand(self, table, groups):
+        """The merged table and the sizes, each cell added up."""
+        n = table.sectors
+        flows = [sum(table.flows[i * n + j] for i in rows for j in columns) for rows in groups for columns in groups]
+        columns = [[sum(column[i] for i in group) for group in groups] for column in table[3:9]]
+        return t.Aggregate(t.Table.of(flows, *columns), [len(group) for group in groups])
+
+    def made(self, *amounts, n=2, **changed):
+        """A table without flows, in which this is made and used, and changed columns."""
+        named = {"final_demand": amounts, "exports": [0] * n, "imports": [0] * n, "value_added": amounts, "production": amounts}
+        return t.Table.of([0] * n * n, **{**named, **changed})
+
+    def test_the_worked_table_in_one(self):
+        for groups in ([[0, 1]], [(1, 0)], [range(2)], [3], [0b11], [3.0]):
+            merged = t.aggregate(self.WORKED, groups)
+            self.assertEqual(merged, ((1, 6, [1400], [1400], [810], [610], [1600], [3000], [0], [0]), [2]))
+        self.assertEqual((type(merged), type(merged.table)), (t.Aggregate, t.Table))
+        self.assertEqual(t.coefficients(*merged.table[2:9]), ([466_667], [533_333], [217_857], [365_000], [1905]))
+        adjusted = t.Table.of(**table(imports=ADJUSTED_IMPORTS, adjustment=ADJUSTMENT))
+        self.assertEqual(t.aggregate(adjusted, [[0, 1]]).table, (1, 7, [1400], [1400], [810], [750], [1600], [3000], [140], [0]))
+
+    def test_the_outer_sectors_of_three(self):
+        merged, sizes = t.aggregate(self.THREE, [[0, 2], [1]])
+        self.assertEqual(merged, (2, 15, [115, 30, 20, 40], [140, 80], [65, 25], [50, 20], [165, 80], [300, 150], [0, 5], [0, 0]))
+        self.assertEqual(sizes, [2, 1])
+
+    def test_every_cell_is_added_up(self):
+        table = t.read_table(self.FILE)
+        for table, groups in [(self.WORKED, [[0], [1]]), (self.WORKED, [[1], [0]]), (self.THREE, [[0, 1, 2]]), (self.THREE, [[2], [1, 0]]),
+                              (self.THREE, [[1], [2], [0]]), (table, self.THIRTEEN), (table, [range(37)]),
+                              (table, [[i] for i in range(36, -1, -1)]), (table, [range(k, 37, 5) for k in range(5)])]:
+            merged = t.aggregate(table, groups)
+            self.assertEqual(merged, self.by_hand(table, groups))
+            self.assertEqual(sum(merged.sizes), table.sectors)
+            for before, after in zip(table[2:9], merged.table[2:9]):
+                self.assertEqual(sum(after), sum(before))
+
+    def test_thirteen_of_37(self):
+        table = t.read_table(self.FILE)
+        merged, sizes = t.aggregate(table, self.THIRTEEN)
+        self.assertEqual(sizes, [1, 1, 18, 1, 3, 1, 1, 1, 1, 1, 1, 6, 1])
+        self.assertEqual((table.sectors, merged.sectors, merged.named), (37, 13, 13 * 13 + 6 * 13))
+        self.assertEqual(merged.production, [166_928, 253_780, 3_526_267, 173_203, 786_290, 246_612, 214_368, 176_695, 214_491, 157_515,
+                                             290_930, 1_022_092, 184_032])
+        self.assertEqual(t.read_table(t.write_table(merged)), merged)
+        sheets = t.coefficients(*merged[2:9])
+        self.assertEqual(sheets.imports, [219_996, 59_997, 189_308, 309_997, 155_860, 150_000, 299_999, 279_995, 319_998, 339_995, 59_999,
+                                          234_118, 309_998])
+        self.assertEqual((sum(t.production(sheets.domestic, sheets.demand).amounts), sum(merged.production)), (7_413_103, 7_413_203))
+
+    def test_single_sectors_change_nothing_but_rises(self):
+        for table in (self.WORKED, self.THREE, t.read_table(self.FILE)):
+            merged, sizes = t.aggregate(table, [[i] for i in range(table.sectors)])
+            self.assertEqual(merged[2:9], table[2:9])
+            self.assertEqual((merged.rises, sizes), ([0] * table.sectors, [1] * table.sectors))
+
+    def test_forms_of_groups(self):
+        merged = t.aggregate(self.THREE, [[0, 2], [1]])
+        for groups in ([5, 2], (5, 2), [[2, 0], [1]], [[0, 2], 2], [5, [1]], [(0, 2), range(1, 2)], deque([deque([0, 2]), [1]]),
+                       [5.0, 2.0], [[0.0, 2], [1.0]], array("Q", [5, 2]), array("b", [5, 2]), memoryview(array("i", [5, 2])),
+                       [array("B", [0, 2]), memoryview(b"\1")], (ctypes.c_uint64 * 2)(5, 2), range(5, 1, -3)):
+            with self.subTest(groups=groups):
+                self.assertEqual(t.aggregate(self.THREE, groups), merged)
+        self.assertEqual(t.aggregate(self.THREE._replace(flows=[[10, 20, 30], [5, 40, 15], [25, 10, 50]], exports=(20.0, 25, 45)),
+                                     [[0, 2], [1]]), merged)
+
+    def test_nothing_is_changed(self):
+        table, groups = t.Table(*self.THREE[:2], *map(list, self.THREE[2:])), [[0, 2], [1]]
+        t.aggregate(table, groups)
+        self.assertEqual((table, groups), (self.THREE, [[0, 2], [1]]))
+
+    def test_groups_that_18_refuses(self):
+        for groups in ([[0, 2], [1, 2]], [[0], [1]], [[0, 1, 2], []], [[], [0, 1, 2]], [[]], [[0, 1], [1]], [5, 5], [7, 7, 7], [3, 3, 1],
+                       [[0, 1, 2, 3]], [[0, 1], [2, 63]], [[0, 1], [63]], [[0, 2], 0], [2**64 - 1], [7 + 2**63], [3, 4 + 2**32]):
+            with self.subTest(groups=groups):
+                self.refused(18, 0, t.aggregate, self.THREE, groups)
+        forty = self.made(*[1] * 40, n=40)
+        for sector in (40, 41, 62, 63):
+            self.refused(18, 0, t.aggregate, forty, [[*range(40), sector]])
+        self.refused(18, 0, t.aggregate, forty, [range(39)])
+        self.assertEqual(t.aggregate(forty, [range(40)]).sizes, [40])
+
+    def test_sums_that_19_refuses(self):
+        limit, groups = 10**9, [[0, 1]]
+        at = t.aggregate(self.made(limit - 1, 1), groups).table
+        self.assertEqual((at.final_demand, at.value_added, at.production), ([limit],) * 3)
+        for second in (2, limit):
+            self.refused(19, 0, t.aggregate, self.made(limit - 1, second), groups)
+        # final demand alone, imports alone, and exports with the adjustment
+        half = [limit - 1, 0]
+        imported = {"value_added": half, "production": half}
+        self.assertEqual(t.aggregate(self.made(limit - 1, 1, imports=[0, 1], **imported), groups).table.final_demand, [limit])
+        self.refused(19, 0, t.aggregate, self.made(limit - 1, 2, imports=[0, 2], **imported), groups)
+        bought = t.Table.of([1, 0, 0, 0], [limit - 1, 0], [1, 0], [limit, 0], [0, 0], [1, 0])
+        self.assertEqual(t.aggregate(bought, groups).table.imports, [limit])
+        self.refused(19, 0, t.aggregate, bought._replace(final_demand=[limit - 1, 1], imports=[limit, 1]), groups)
+        none = {"final_demand": [0, 0]}
+        sent = self.made(limit - 1, 1, exports=[limit - 1, 0], adjustment=[0, 1], **none)
+        self.assertEqual(t.aggregate(sent, groups).table[3:9], ([0], [limit - 1], [0], [limit], [limit], [1]))
+        self.refused(19, 0, t.aggregate, self.made(limit - 1, 2, exports=[limit - 1, 0], adjustment=[0, 2], **none), groups)
+        full = self.made(*[limit] * 40, n=40)
+        self.assertEqual(t.aggregate(full, [[i] for i in range(40)]).table, full)
+        self.refused(19, 0, t.aggregate, full, [range(40)])
+
+    def test_how_many_groups(self):
+        for table, groups in [(self.WORKED, []), (self.WORKED, ()), (self.WORKED, [[0], [1], []]), (self.WORKED, [1, 2, 3]),
+                              (self.WORKED, [3] * 41), (self.WORKED, [[0, 1]] * 1000), (self.made(7, n=1), [[0], [0]])]:
+            self.refused(2, 0, t.aggregate, table, groups)
+
+    def test_the_order_of_the_questions(self):
+        bad, limit = [[0], [0]], 10**9
+        wrong = self.made(limit, 5)
+        self.refused(19, 0, t.aggregate, wrong, [[0, 1]])
+        self.refused(18, 0, t.aggregate, wrong, bad)
+        wrong = wrong._replace(final_demand=[limit, 1], exports=[0, 6], imports=[0, 2])
+        self.refused(6, 1, t.aggregate, wrong, [[0, 1]])
+        self.refused(6, 1, t.aggregate, wrong, bad)
+        for number, place, changed in [(5, 1, {"exports": [0, 7]}), (4, 1, {"value_added": [limit, 4]}),
+                                       (16, 1, {"adjustment": [0, limit]}), (3, 4 + 5 * 2, {"adjustment": [limit + 1, limit]})]:
+            wrong = wrong._replace(**changed)
+            self.refused(number, place, t.aggregate, wrong, bad)
+        self.refused(2, 0, t.aggregate, wrong, [])
+        self.refused(2, 0, t.aggregate, wrong._replace(imports=[0]), bad)
+        for n in (0, 41, 2**64 - 1):
+            self.refused(1, 0, t.aggregate, wrong._replace(sectors=n), [])
+
+    def test_wrong_lengths(self):
+        for name in t.Table._fields[2:9]:
+            for other in ([], [0] * 3, [0] * 5):
+                self.refused(2, 0, t.aggregate, self.WORKED._replace(**{name: other}), [[0, 1]])
+        # the rises are no part of it
+        self.assertEqual(t.aggregate(self.WORKED._replace(rises=[2**64]), [[0, 1]]), t.aggregate(self.WORKED, [[0, 1]]))
+
+    def test_question_7(self):
+        # the first sector buys what the second imports; merged with the third, that is no longer told apart
+        apart = t.Table.of([0, 0, 0, 98, 0, 0, 0, 0, 0], [100, 0, 10_000], [0] * 3, [0, 98, 0], [2, 0, 10_000], [100, 0, 10_000])
+        self.assertEqual(t.coefficients(*apart[2:9]).domestic, [0] * 9)
+        self.refused(7, 0, t.coefficients, *t.aggregate(apart, [[0], [1, 2]]).table[2:9])
+        # a sector that is refused, merged with a neighbour
+        over = t.Table.of([960_000, 0, 0, 0], [40_000, 10**6], [0, 0], [0, 0], [40_000, 10**6], [10**6, 10**6])
+        self.refused(7, 0, t.coefficients, *over[2:9])
+        self.assertEqual(t.coefficients(*t.aggregate(over, [[0, 1]]).table[2:9]).domestic, [480_000])
+
+    def test_what_is_no_group(self):
+        for error, text, groups in [
+                (ValueError, r"groups\[0\] names sector 2 twice$", [[2, 0, 2], [1]]),
+                (ValueError, r"groups\[1\] names sector 1 twice$", [5, [1, 1]]),
+                (ValueError, r"groups\[0\]\[1\] is 64, above 63$", [[0, 64], [1]]),
+                (ValueError, r"groups\[0\]\[0\] is -1, below 0$", [[-1]]),
+                (ValueError, r"groups\[0\]\[0\] is 18446744073709551616, above ", [[2**64]]),
+                (ValueError, r"groups\[1\]\[0\] is 0.5, not a whole number$", [[0, 2], [0.5]]),
+                (ValueError, r"groups\[1\] is -2, below 0$", [5, -2]),
+                (ValueError, r"groups\[1\] is 18446744073709551616, above ", [5, 2**64]),
+                (ValueError, r"groups\[0\] is 2.5, not a whole number$", [2.5]),
+                (TypeError, r"groups\[0\]\[0\] is '0', not a whole number$", [["0"]]),
+                (TypeError, r"groups\[0\]\[1\] is True, not a whole number$", [[0, True]]),
+                (TypeError, r"groups\[0\] is True, not a whole number$", [True]),
+                (TypeError, r"groups\[0\]\[0\] is \[0, 1\], not a whole number$", [[[0, 1], [2]]]),
+                (TypeError, r"groups\[1\] is None, not a whole number$", [5, None]),
+                (TypeError, r"groups\[0\] is a str, ", ["012"]),
+                (TypeError, r"groups\[0\] is a set, ", [{0, 2}, {1}]),
+                (TypeError, r"groups\[0\] is a dict, ", [{0: 2}]),
+                (TypeError, r"groups\[0\] is a bytes, ", [b"\0\2", b"\1"]),
+                *((TypeError, f"groups is a {type(other).__name__}, ", other) for other in ({0: [0]}, "012", {5, 2}, 7, None, iter([7])))]:
+            with self.subTest(text=text):
+                with self.assertRaisesRegex(error, f"^{text}"):
+                    t.aggregate(self.THREE, groups)
+
+    def test_what_is_no_table(self):
+        for given in (None, 2, tuple(self.WORKED), table(), (FLOWS, *COLUMNS), self.FILE):
+            with self.assertRaisesRegex(TypeError, f"^table is a {type(given).__name__}, not a Table: "):
+                t.aggregate(given, [[0, 1]])
+        for name in t.Table._fields[2:9]:
+            with self.assertRaisesRegex(ValueError, rf"^{name}\[1\] is -7, below 0$"):
+                t.aggregate(self.WORKED._replace(**{name: [0, -7]}), [[0, 1]])
+        with self.assertRaisesRegex(ValueError, "^sectors is -1, below 0$"):
+            t.aggregate(self.WORKED._replace(sectors=-1), [[0, 1]])
 
 
 class Budgets(Refusing):

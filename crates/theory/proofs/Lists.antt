@@ -179,6 +179,14 @@ all-failed p [] k h e = absurd (not-suc-le-zero h)
 all-failed p (x ∷ xs) zero h e = rw e
 all-failed p (x ∷ xs) (suc k) h e = rw (all-failed p xs k (le-of-suc-le-suc h) e) (and-last-false (p x))
 
+-- the same of numbers made by a rule
+pub made-passed : (p : ℕ → Bool) (n : ℕ) (f : ℕ → ℕ) → ((k : ℕ) → k < n → p (f k) ≡ true) → all p (tabulate n f) ≡ true
+made-passed p n f h =
+    all-passed p (tabulate n f) (λ k lt. let l : k < n = rw (length-tabulate n f) at lt in rw (cell-tabulate n f k l) (h k l))
+
+pub made-failed : (p : ℕ → Bool) (n : ℕ) (f : ℕ → ℕ) (k : ℕ) → k < n → p (f k) ≡ false → all p (tabulate n f) ≡ false
+made-failed p n f k h e = all-failed p (tabulate n f) k (rw (length-tabulate n f) h) (rw (cell-tabulate n f k h) e)
+
 -- and back: where all pass, each does
 pub all-cell : (p : ℕ → Bool) (xs : List ℕ) → all p xs ≡ true → (k : ℕ) → k < length xs → p (cell xs k) ≡ true
 all-cell p [] e k h = absurd (not-suc-le-zero h)

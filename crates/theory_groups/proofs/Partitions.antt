@@ -15,19 +15,13 @@ use Rattle.model.specs.Aggregation.{groupSizes, partitioned}
 use Rattle.theory.proofs.Sums.{sum-cong, sum-swap, sum-const, sum-rest}
 use Rattle.theory.proofs.Lists.{length-tabulate, cell-tabulate, tabulate-cong, and-true, all-cell}
 use Rattle.theory.proofs.Verdicts.{Passes}
+use Rattle.theory_groups.specs.Groups.{inGroups, fits}
 use Rattle.theory_groups.proofs.Totals.{Once}
 
 -- every sector is in exactly one group, and no group has a bit at n or above
 pub record Partition (n : ℕ) (groups : List ℕ) : Type 0 where
   pub once : Once n groups
   pub below : (k : ℕ) → k < length groups → cell groups k < 2 ^ n
-
--- the two tests of question 18
-abbrev pub inGroups : List ℕ → ℕ → ℕ
-inGroups groups i = sum (length groups) (λ k. bit (cell groups k) i)
-
-abbrev pub fits : ℕ → ℕ → Bool
-fits n group = ltb 0 group && ltb group (2 ^ n)
 
 pub partition : (t : Table) (groups : List ℕ) → Passes (partitioned t groups) → Partition (t .sectors) groups
 partition t groups p =

@@ -1,50 +1,64 @@
+-- `aggregate_checks::check_lengths` meets its contract: each way out has its law. Assumes nothing.
+use mathlib.Core.Bool.{Bool, true, false, _&&_}
+use mathlib.Core.List.{List, [], _∷_}
+use mathlib.Core.Path.{_≡_, sym, _∙_}
+use Prim.Native.Nat.{ℕ, _≤_}
+use native.Mathlib.Nat.{le-trans}
 use borrow.Author.Needs.{needs}
+use borrow.Author.Tests.{not-true, not-false, le-leb}
+use lib.Dec.{leb}
+use Rattle.model.specs.Table.{sectorLimit, fewSectors}
+use Rattle.model.specs.Checks.{Check, verdict, single, size, lengths}
+use Rattle.theory.proofs.Lists.{from-one}
+use Rattle.theory.proofs.Verdicts.{single-passed, single-failed, answered-pass, answered-on, answered-end, sized}
 use Rattle.aggregate_checks.proofs.check_lengths.Statement.{statement}
 use Rattle.aggregate_checks.proofs.check_lengths.Tie as tie
-use Rattle.aggregate_checks.proofs.check_lengths.Reads as reads
-use Rattle.aggregate_checks.proofs.check_lengths.Lts as lts
-use Rattle.checks.proofs.check_sizes.Reads as check-sizes-reads
 
--- src/lib.rt:29:9
-check-sizes-requires : tie.Need-check-sizes-requires
-check-sizes-requires c κs = search needs
+abbrev entry : tie.After-check-sizes → tie.Start
+entry q = q .before .before .before .before .before
 
-enum-told : tie.Need-enum-told
-enum-told c = search needs
+-- questions 1 and 2 of the table, and 2 of the groups and of the merged table
+abbrev asked : tie.After-check-sizes → List Check
+asked q = let a = entry q .args in size (a .n) ∷ lengths (a .n) (a .matrices .now) (a .columns .now) ∷ []
 
--- src/lib.rt:31:9
-enum-told-2 : tie.Need-enum-told-2
-enum-told-2 c = search needs
+abbrev test : tie.After-check-sizes → Bool
+test q = let a = entry q .args in leb 1 (a .g) && leb (a .g) (a .n)
 
--- src/lib.rt:31:9
+abbrev made : tie.After-check-sizes → List Check
+made q = let a = entry q .args in lengths (a .g) (a .merged .now) (a .lent .now) ∷ []
+
+-- the number of groups is then one of sectors
+number-of : (n g : ℕ) → leb 1 g && leb g n ≡ true → n ≤ sectorLimit → fewSectors g ≡ true
+number-of n g e few = let p = from-one g n e in rw (le-leb 1 g (p .0)) (le-leb g sectorLimit (le-trans (p .1) few))
+
 returns : tie.Need-returns
-returns c = ?
+returns c =
+    let q = c .before .before in
+    answered-end (asked q) (q .check-sizes .ensures) (single 2 (test q) ∷ made q) (c .enum-told2 .given .1)
 
--- src/lib.rt:34:9
 returns-2 : tie.Need-returns-2
-returns-2 c = ?
+returns-2 c =
+    let p = c .before .before in
+    let q = p .before .before in
+    sym (single-failed 2 (made q) [] (sym (c .before .is-counted .ensures) ∙ not-true _ (c .if1 .taken)))
+    ∙ answered-on (asked q) (q .check-sizes .ensures) (single 2 (test q) ∷ made q) [] (p .enum-told .given .1)
 
--- src/lib.rt:40:9
 returns-3 : tie.Need-returns-3
-returns-3 c = ?
-
--- src/lib.rt:45:5
-check-sizes-requires-2 : tie.Need-check-sizes-requires-2
-check-sizes-requires-2 c κs = search needs
-
--- src/lib.rt:19:1
-returns-4 : tie.Need-returns-4
-returns-4 c = ?
+returns-3 c =
+    let k = c .before in
+    let p = k .before .before in
+    let q = p .before .before in
+    let a = entry q .args in
+    let e = sym (k .before .is-counted .ensures) ∙ not-false _ (k .if1 .left) in
+    let z = answered-pass (asked q) (q .check-sizes .ensures) (p .enum-told .given .1) in
+    let few = sized (a .n) (a .matrices .now) (a .columns .now) (z .0) (z .1 .0) .few in
+    c .check-sizes2 .ensures
+    ∙ single-passed 1 (made q) [] (number-of (a .n) (a .g) e few)
+    ∙ sym (single-passed 2 (made q) [] e)
+    ∙ answered-on (asked q) (q .check-sizes .ensures) (single 2 (test q) ∷ made q) [] (p .enum-told .given .1)
 
 pub check-lengths-spec : {M : Type 1} → statement M
 check-lengths-spec =
     tie.close
     (tie.spec
-    check-sizes-requires
-    enum-told
-    enum-told-2
-    returns
-    returns-2
-    returns-3
-    check-sizes-requires-2
-    returns-4)
+    (λ c κs. search needs) (λ c. search needs) (λ c. search needs) returns (λ c κs. search needs) returns-2 (λ c κs. search needs) returns-3)

@@ -1,62 +1,39 @@
+-- `aggregate_checks::count_groups` meets its contract: count is the number of groups before k that the sector is in. Assumes nothing.
+use mathlib.Core.Path.{_≡_, refl}
+use Prim.Native.Nat.{ℕ, _-_, _≤_}
+use native.Mathlib.Omega.{arith}
+use lib.ListN.{length}
+use Rattle.model.specs.Numbers.{sum, cell, bit}
+use Rattle.theory.proofs.Bits.{bit-lt}
+use Rattle.theory.proofs.Sums.{sum-more, sum-done}
 use Rattle.aggregate_checks.proofs.count_groups.Statement.{statement}
 use Rattle.aggregate_checks.proofs.count_groups.Tie as tie
-use Rattle.aggregate_checks.proofs.count_groups.Reads as reads
-use Rattle.aggregate_checks.proofs.count_groups.Lts as lts
 
 abbrev Inv-loop : tie.InvT-loop
-Inv-loop groups sector count₀ k₀ k-end count k = ?
+Inv-loop groups sector count₀ k₀ end count k = (k ≤ length groups) × (count ≡ sum k (λ j. bit (cell groups j) sector)) × (count ≤ k)
 
 abbrev μ-loop : tie.MeasureT-loop
-μ-loop groups sector count₀ k₀ k-end count k = ?
+μ-loop groups sector count₀ k₀ end count k = length groups - k
 
--- src/lib.rt:54:5
-loop-holds : tie.Need-loop-holds Inv-loop μ-loop
-loop-holds c = ?
+-- what a group adds is 0 or 1
+term : (c : tie.In-loop Inv-loop μ-loop) → let a = c .before .before .args in bit (cell (a .groups .now) (c .before .loop .k)) (a .sector) ≤ 1
+term c = let a = c .before .before .args in omega (arith, bit-lt (cell (a .groups .now) (c .before .loop .k)) (a .sector))
 
--- src/lib.rt:55:19
-mul-count : tie.Need-mul-count Inv-loop μ-loop
-mul-count c = ?
-
--- src/lib.rt:55:19
-shared-slice-read-count : tie.Need-shared-slice-read-count Inv-loop μ-loop
-shared-slice-read-count c = ?
-
--- src/lib.rt:55:19
-shr-count : tie.Need-shr-count Inv-loop μ-loop
-shr-count c = ?
-
--- src/lib.rt:55:9
-add-count : tie.Need-add-count Inv-loop μ-loop
-add-count c = ?
-
--- src/lib.rt:54:9
-add-k : tie.Need-add-k Inv-loop μ-loop
-add-k c = ?
-
--- src/lib.rt:54:5
-loop-less : tie.Need-loop-less Inv-loop μ-loop
-loop-less c = ?
-
--- src/lib.rt:54:5
 loop-again : tie.Need-loop-again Inv-loop μ-loop
-loop-again c = ?
+loop-again c =
+    let l = c .before .before .loop in
+    let a = c .before .before .before .args in
+    (omega arith, sum-more (λ j. bit (cell (a .groups .now) j) (a .sector)) (l .k) (l .count) (l .inv .1), omega (arith, l .inv .2, term (c .before)))
 
--- src/lib.rt:49:1
 returns : tie.Need-returns Inv-loop μ-loop
-returns c = ?
+returns c =
+    let l = c .before .loop in
+    let a = c .before .before .args in
+    sum-done (λ j. bit (cell (a .groups .now) j) (a .sector)) (l .k) (length (a .groups .now)) (l .count) (l .inv .1) (l .inv .0) (c .loop-test .left)
 
 pub count-groups-spec : {M : Type 1} → statement M
 count-groups-spec =
     tie.close
     (tie.spec
-    Inv-loop
-    μ-loop
-    loop-holds
-    mul-count
-    shared-slice-read-count
-    shr-count
-    add-count
-    add-k
-    loop-less
-    loop-again
-    returns)
+    Inv-loop μ-loop (λ c. (omega arith, refl, omega arith)) (λ c. omega arith) (λ c. omega arith) (λ c. c .before .before .before .pre)
+    (λ c. omega (arith, c .before .before .loop .inv .2, term (c .before))) (λ c. omega arith) (λ c. omega arith) loop-again returns)

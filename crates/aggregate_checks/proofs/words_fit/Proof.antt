@@ -1,77 +1,54 @@
+-- `aggregate_checks::words_fit` meets its contract: every group before k fits. Assumes nothing.
+use mathlib.Core.Path.{_≡_, sym}
+use Prim.Native.Nat.{ℕ, _-_, _≤_}
+use native.Mathlib.Omega.{arith}
+use lib.ListN.{length}
+use Rattle.model.specs.Numbers.{cell}
+use Rattle.theory.proofs.Lists.{All, all-none, all-more, all-passed, all-failed}
+use Rattle.theory_groups.specs.Groups.{fits}
+use Rattle.aggregate_checks.proofs.WordLaws.{empty, above, below}
 use Rattle.aggregate_checks.proofs.words_fit.Statement.{statement}
 use Rattle.aggregate_checks.proofs.words_fit.Tie as tie
-use Rattle.aggregate_checks.proofs.words_fit.Reads as reads
-use Rattle.aggregate_checks.proofs.words_fit.Lts as lts
 
 abbrev Inv-loop : tie.InvT-loop
-Inv-loop n groups k₀ k-end k = ?
+Inv-loop n groups k₀ end k = (k ≤ length groups) × All (λ j. fits n (cell groups j)) k
 
 abbrev μ-loop : tie.MeasureT-loop
-μ-loop n groups k₀ k-end k = ?
+μ-loop n groups k₀ end k = length groups - k
 
--- src/lib.rt:78:5
-loop-holds : tie.Need-loop-holds Inv-loop μ-loop
-loop-holds c = ?
+abbrev word : tie.At-loop Inv-loop μ-loop → ℕ
+word p = cell (p .before .args .groups .now) (p .loop .k)
 
--- src/lib.rt:79:12
-mul-if1 : tie.Need-mul-if1 Inv-loop μ-loop
-mul-if1 c = ?
-
--- src/lib.rt:79:12
-shared-slice-read-if1 : tie.Need-shared-slice-read-if1 Inv-loop μ-loop
-shared-slice-read-if1 c = ?
-
--- src/lib.rt:80:13
 returns : tie.Need-returns Inv-loop μ-loop
-returns c = ?
+returns c =
+    let q = c .before .before in
+    let p = q .before in
+    let a = p .before .args in
+    sym (all-failed (fits (a .n)) (a .groups .now) (p .loop .k) (q .loop-test .taken) (empty (a .n) (word p) (c .if1 .taken)))
 
--- src/lib.rt:82:12
-mul-if2 : tie.Need-mul-if2 Inv-loop μ-loop
-mul-if2 c = ?
-
--- src/lib.rt:82:12
-shared-slice-read-if2 : tie.Need-shared-slice-read-if2 Inv-loop μ-loop
-shared-slice-read-if2 c = ?
-
--- src/lib.rt:82:12
-shr-if2 : tie.Need-shr-if2 Inv-loop μ-loop
-shr-if2 c = ?
-
--- src/lib.rt:83:13
 returns-2 : tie.Need-returns-2 Inv-loop μ-loop
-returns-2 c = ?
+returns-2 c =
+    let q = c .before .before .before .before in
+    let p = q .before in
+    let a = p .before .args in
+    sym (all-failed (fits (a .n)) (a .groups .now) (p .loop .k) (q .loop-test .taken) (above (a .n) (word p) (c .if2 .taken)))
 
--- src/lib.rt:78:9
-add-k : tie.Need-add-k Inv-loop μ-loop
-add-k c = ?
-
--- src/lib.rt:78:5
-loop-less : tie.Need-loop-less Inv-loop μ-loop
-loop-less c = ?
-
--- src/lib.rt:78:5
 loop-again : tie.Need-loop-again Inv-loop μ-loop
-loop-again c = ?
+loop-again c =
+    let e = c .before .before in
+    let p = e .before .before .before in
+    let a = p .before .args in
+    (omega arith, all-more (λ j. fits (a .n) (cell (a .groups .now) j)) (p .loop .k) (p .loop .inv .1) (below (a .n) (word p) (e .if1 .left) (c .if2 .left)))
 
--- src/lib.rt:74:1
 returns-3 : tie.Need-returns-3 Inv-loop μ-loop
-returns-3 c = ?
+returns-3 c =
+    let p = c .before in
+    let a = p .before .args in
+    sym (all-passed (fits (a .n)) (a .groups .now) (λ k h. p .loop .inv .1 k (omega (arith, c .loop-test .left))))
 
 pub words-fit-spec : {M : Type 1} → statement M
 words-fit-spec =
     tie.close
     (tie.spec
-    Inv-loop
-    μ-loop
-    loop-holds
-    mul-if1
-    shared-slice-read-if1
-    returns
-    mul-if2
-    shared-slice-read-if2
-    shr-if2
-    returns-2
-    add-k
-    loop-less
-    loop-again
-    returns-3)
+    Inv-loop μ-loop (λ c. (omega arith, all-none _)) (λ c. omega arith) (λ c. omega arith) returns (λ c. omega arith) (λ c. omega arith)
+    (λ c. omega (arith, c .before .before .before .before .before .pre)) returns-2 (λ c. omega arith) (λ c. omega arith) loop-again returns-3)
