@@ -180,10 +180,12 @@ void tawqeshim_coefficients(
  *
  * Takes the table as tawqeshim_coefficients does, with the same places of 3; and groups, g words of 64 bits, where g, their length, is
  * from 1 to n. Another g is refused with 2. Bit i of a word, which counts 2 to the power of i, says that sector i is in the group. Every
- * sector is in exactly one group, and every group has a sector. A group's sectors need not be neighbours.
+ * sector is in exactly one group, every group has a sector, and no bit at n or above is set, bit 63 neither; otherwise 18 refuses. A
+ * group's sectors need not be neighbours.
  * Gives the merged table, in which group k is sector k: merged_x, g * g cells, and the six merged columns, g cells each. A merged cell is
  * the sum of all cells that meet in it: merged_x[k * g + l] of the cells of x with their row in group k and their column in group l. So
- * what the sectors of a group buy from each other stands on the diagonal. Gives in sizes, g cells, how many sectors each group took in.
+ * what the sectors of a group buy from each other stands on the diagonal. A sum above 1,000,000,000 is refused with 19.
+ * Gives in sizes, g cells, how many sectors each group took in.
  *
  * The merged table passes 1 to 6 and 16. The totals of x and of each column are those before, and the sizes sum to n. The rises that a
  * table file may carry are no part of merging.

@@ -895,6 +895,18 @@ fn parts(rng: &mut Rng, whole: u64, room: &[u64]) -> Vec<u64> {
     parts
 }
 
+/// What each sector may add to its amount of a column, so that all of them have the whole; as far as each stays within the limit.
+fn missing(rng: &mut Rng, column: &[u64], sectors: &[usize], whole: u64) -> Vec<(usize, u64)> {
+    let before: u64 = sectors.iter().map(|i| column[*i]).sum();
+    let room: Vec<u64> = sectors.iter().map(|i| AMOUNT.saturating_sub(column[*i])).collect();
+    sectors.iter().copied().zip(parts(rng, whole.saturating_sub(before), &room)).collect()
+}
+
+/// The least that X of a sector can be.
+fn least_output(n: usize, table: &Table, i: usize) -> u64 {
+    outflow(table, i).max(column_sum(table, n, i))
+}
+
 /// X of a sector, with V and M by which its column and its row balance.
 fn set_output(n: usize, table: &mut Table, i: usize, output: u64) {
     let used = row_sum(table, n, i) + table[FINAL][i] + outflow(table, i);
@@ -903,13 +915,69 @@ fn set_output(n: usize, table: &mut Table, i: usize, output: u64) {
     table[IMPORTS][i] = used - output;
 }
 
-/// A table that balances, in which one sum over a group is 1,000,000,000, one over it or far over it, with no amount of a sector over.
+/// F of these sectors is the whole; half of what is used or any part of it is imported.
+fn press_final(rng: &mut Rng, n: usize, table: &mut Table, sectors: &[usize], whole: u64) {
+    let half = rng.chance(1, 2);
+    for (i, part) in missing(rng, &table[FINAL], sectors, whole) {
+        table[FINAL][i] += part;
+        let used = row_sum(table, n, i) + table[FINAL][i] + outflow(table, i);
+        let least = least_output(n, table, i).max(used.saturating_sub(AMOUNT));
+        let most = used.min(AMOUNT).max(least);
+        let output = if half { least.max(used / 2) } else { rng.between(least, most) };
+        set_output(n, table, i, output);
+    }
+}
+
+/// M of these sectors is the whole. All is imported that can be.
+fn press_imports(rng: &mut Rng, n: usize, table: &mut Table, sectors: &[usize], whole: u64) {
+    sectors.iter().for_each(|i| set_output(n, table, *i, least_output(n, table, *i)));
+    for (i, part) in missing(rng, &table[IMPORTS], sectors, whole) {
+        table[FINAL][i] += part;
+        table[IMPORTS][i] += part;
+    }
+}
+
+/// X of these sectors is the whole, by F, E or G.
+fn press_output(rng: &mut Rng, table: &mut Table, sectors: &[usize], whole: u64) {
+    for (i, part) in missing(rng, &table[OUTPUT], sectors, whole) {
+        for slice in [OUTPUT, VALUE, rng.of(&[FINAL, EXPORTS, ADJUSTMENT])] {
+            table[slice][i] += part;
+        }
+    }
+}
+
+/// E + G of these sectors is the whole, and X no more where it can.
+fn press_outflow(rng: &mut Rng, n: usize, table: &mut Table, sectors: &[usize], whole: u64) {
+    let outflows: Vec<u64> = (0..n).map(|i| outflow(table, i)).collect();
+    for (i, part) in missing(rng, &outflows, sectors, whole) {
+        let exports = rng.upto(part);
+        table[EXPORTS][i] += exports;
+        table[ADJUSTMENT][i] += part - exports;
+        set_output(n, table, i, least_output(n, table, i));
+    }
+}
+
+/// X of these sectors is the whole, by what they buy from the sellers.
+fn press_flows(rng: &mut Rng, n: usize, table: &mut Table, sectors: &[usize], sellers: &[usize], whole: u64) {
+    for (j, part) in missing(rng, &table[OUTPUT], sectors, whole) {
+        let i = rng.of(sellers);
+        for (slice, at) in [(0, i * n + j), (OUTPUT, j), (IMPORTS, i), (FINAL, j)] {
+            table[slice][at] += part;
+        }
+    }
+}
+
+fn sectors_of(n: usize, group: u64) -> Vec<usize> {
+    (0..n).filter(|i| group >> i & 1 == 1).collect()
+}
+
+/// A table that balances, in which a sum over one group is 1,000,000,000, one over it or far over it. Few amounts of a sector are over.
 fn brimming_table(rng: &mut Rng, n: usize, groups: &[u64]) -> Table {
     let mut table = if rng.chance(1, 2) { zero_table(n) } else { small_table(rng, n) };
     balance(rng, n, &mut table, AMOUNT);
     let largest = groups.iter().copied().max_by_key(|word| word.count_ones()).unwrap_or(0);
     let group = if rng.chance(1, 2) { largest } else { rng.of(groups) };
-    let sectors: Vec<usize> = (0..n).filter(|i| group >> i & 1 == 1).collect();
+    let sectors = sectors_of(n, group);
     let whole = match rng.below(8) {
         0..=2 => AMOUNT,
         3 | 4 => AMOUNT + 1,
@@ -918,67 +986,14 @@ fn brimming_table(rng: &mut Rng, n: usize, groups: &[u64]) -> Table {
         6 => sectors.len() as u64 * AMOUNT,
         _ => AMOUNT + rng.magnitude(sectors.len() as u64 * AMOUNT),
     };
-    // What each sector may add to its amounts in a column, so that the group has the whole.
-    let more = |rng: &mut Rng, column: &Vec<u64>| {
-        let before: u64 = sectors.iter().map(|i| column[*i]).sum();
-        let room: Vec<u64> = sectors.iter().map(|i| AMOUNT.saturating_sub(column[*i])).collect();
-        parts(rng, whole.saturating_sub(before), &room)
-    };
-    // X as low as may be.
-    let least = |table: &Table, i: usize| outflow(table, i).max(column_sum(table, n, i));
     match rng.below(5) {
-        // F, half of it or any part imported.
-        0 => {
-            let half = rng.chance(1, 2);
-            for (part, i) in more(rng, &table[FINAL]).into_iter().zip(&sectors) {
-                table[FINAL][*i] += part;
-                let used = row_sum(&table, n, *i) + table[FINAL][*i] + outflow(&table, *i);
-                let least = least(&table, *i).max(used.saturating_sub(AMOUNT));
-                let most = used.min(AMOUNT).max(least);
-                let output = if half { least.max(used / 2) } else { rng.between(least, most) };
-                set_output(n, &mut table, *i, output.min(used));
-            }
-        }
-        // M, with all imported that may be.
-        1 => {
-            sectors.iter().for_each(|i| {
-                let least = least(&table, *i);
-                set_output(n, &mut table, *i, least);
-            });
-            for (part, i) in more(rng, &table[IMPORTS]).into_iter().zip(&sectors) {
-                table[FINAL][*i] += part;
-                table[IMPORTS][*i] += part;
-            }
-        }
-        // X, with F, E or G.
-        2 => {
-            for (part, i) in more(rng, &table[OUTPUT]).into_iter().zip(&sectors) {
-                for slice in [OUTPUT, VALUE, rng.of(&[FINAL, EXPORTS, ADJUSTMENT])] {
-                    table[slice][*i] += part;
-                }
-            }
-        }
-        // E + G, with nothing else that is made here.
-        3 => {
-            let outflows: Vec<u64> = (0..n).map(|i| outflow(&table, i)).collect();
-            for (part, i) in more(rng, &outflows).into_iter().zip(&sectors) {
-                let exports = rng.upto(part);
-                table[EXPORTS][*i] += exports;
-                table[ADJUSTMENT][*i] += part - exports;
-                let least = least(&table, *i);
-                set_output(n, &mut table, *i, least);
-            }
-        }
-        // x, bought by the sectors of the group from those of any group.
+        0 => press_final(rng, n, &mut table, &sectors, whole),
+        1 => press_imports(rng, n, &mut table, &sectors, whole),
+        2 => press_output(rng, &mut table, &sectors, whole),
+        3 => press_outflow(rng, n, &mut table, &sectors, whole),
         _ => {
-            let sellers = rng.of(groups);
-            let sellers: Vec<usize> = (0..n).filter(|i| sellers >> i & 1 == 1).collect();
-            for (part, j) in more(rng, &table[OUTPUT]).into_iter().zip(&sectors) {
-                let i = rng.of(&sellers);
-                for (slice, at) in [(0, i * n + j), (OUTPUT, *j), (IMPORTS, i), (FINAL, *j)] {
-                    table[slice][at] += part;
-                }
-            }
+            let sellers = sectors_of(n, rng.of(groups));
+            press_flows(rng, n, &mut table, &sectors, &sellers, whole);
         }
     }
     table
