@@ -8,7 +8,7 @@ use lib.ListN.{length}
 use Rattle.model.specs.Numbers.{tabulate, cell, at}
 use Rattle.model.specs.Table.{tableOf, sectorLimit}
 use Rattle.model.specs.Checks.{amountLimit}
-use Rattle.model.specs.Aggregation.{groupTotal, mergedColumn, mergedFlow}
+use Rattle.model.specs.Aggregation.{groupTotal, mergedColumn}
 use Rattle.theory.proofs.Lists.{cell-tabulate}
 use Rattle.theory_groups.proofs.Totals.{total-cong, total-most}
 

@@ -2,20 +2,20 @@
 use mathlib.Core.Bool.{Bool, true, false, cond}
 use mathlib.Core.List.{List, [], _∷_, _++_, map}
 use mathlib.Core.Path.{_≡_, refl, sym, ap, _∙_, subst⁻¹}
-use Prim.Native.Nat.{ℕ, zero, suc, _*_, _/_, _%_, _≤_, _<_}
+use Prim.Native.Nat.{ℕ, zero, suc, _*_, _/_, _%_, _≤_}
 use native.Mathlib.Nat.{le-refl, le-trans, not-suc-le-zero, le-of-suc-le-suc}
 use lib.ListN.{length, replicate}
 use Rattle.model.specs.Numbers.{cell, at}
 use Rattle.model.specs.Table.{Table, tableOf, column}
-use Rattle.model.specs.Checks.{Report, Check, accepts, verdict, output, tableAmounts, exportsWithin, balanceChecks, columnSums}
+use Rattle.model.specs.Checks.{Report, accepts, verdict, output, tableAmounts, exportsWithin, balanceChecks, columnSums}
 use Rattle.model.specs.Calls.{tableChecks, coefficientsReport, domesticCoefficients}
 use Rattle.model.specs.Aggregation.{groupTotal, groupSizes, mergedFlow, mergedColumn, mergedTable, partitioned, mergedWithin, aggregateChecks, aggregateReport}
 use Rattle.model.specs.Promises.{SameTotals}
 use Rattle.model.specs.Contracts.{Aggregated}
 use Rattle.theory.specs.Slices.{Each, Columns}
-use Rattle.theory.proofs.Lists.{length-tabulate, from-one, and-true, each-equal}
+use Rattle.theory.proofs.Lists.{length-tabulate, from-one}
 use Rattle.theory.proofs.Verdicts.{AllPass, accepted-all, all-accepted, all-pass-parts, pass-on, output-given, sized, size-passes}
-use Rattle.theory_tables.specs.Tables.{TableSizes, TableAmounts}
+use Rattle.theory_tables.specs.Tables.{TableAmounts}
 use Rattle.theory_tables.proofs.Tables.{Accepted, table-sizes, table-amounts, balanced, table-passes}
 use Rattle.theory_groups.proofs.Partitions.{Partition, partition, sizes-sum}
 use Rattle.theory_groups.proofs.Merging.{same-totals}
@@ -56,7 +56,7 @@ module _ (n : ℕ) (x f e m v p a groups : List ℕ) where
     pub small : TableAmounts u
 
   module _ (matrices lent : List ℕ) where
-    pub mergeable : AllPass (aggregateChecks t groups matrices lent) → Mergeable matrices lent
+    mergeable : AllPass (aggregateChecks t groups matrices lent) → Mergeable matrices lent
     mergeable (is-size, (is-lengths, (is-count, (is-lent, rest)))) =
         let z = table-sizes t [] [] is-size is-lengths in
         let count = from-one g n (is-count 0 (le-refl 1)) in
@@ -73,6 +73,12 @@ module _ (n : ℕ) (x f e m v p a groups : List ℕ) where
           parts = partition t groups (b .1 .0);
           small = table-amounts u (all-pass-parts (tableAmounts u) (exportsWithin u ∷ []) (accepted-all asked [] (b .1 .1 .0 0 (le-refl 1))) .0);
         }
+
+    -- so does a call whose answer is that it was accepted
+    pub accepted-known : {r : Report} → r ≡ aggregateReport t groups matrices lent → r .accepted ≡ true → Mergeable matrices lent
+    unfolding aggregateReport
+    accepted-known answer ok =
+        mergeable (accepted-all (aggregateChecks t groups matrices lent) [] (sym (ap (λ (q : Report). q .accepted) answer) ∙ ok))
 
     module _ (M : Mergeable matrices lent) where
       -- the merged table passes questions 1 to 6 and 16, with any slices of the right lengths beside it
@@ -107,7 +113,6 @@ module _ (n : ℕ) (x f e m v p a groups : List ℕ) where
       → m′ ≡ output r (length m₀) (column u 2) → v′ ≡ output r (length v₀) (column u 3) → p′ ≡ output r (length p₀) (column u 4)
       → a′ ≡ output r (length a₀) (column u 5) → s′ ≡ output r (length s₀) (groupSizes n groups)
       → Aggregated t groups (tableOf g x₀ (f₀ ∷ e₀ ∷ m₀ ∷ v₀ ∷ p₀ ∷ a₀ ∷ [])) s₀ r (tableOf g x′ (f′ ∷ e′ ∷ m′ ∷ v′ ∷ p′ ∷ a′ ∷ [])) s′
-  unfolding aggregateReport
   aggregated {x₀} {f₀} {e₀} {m₀} {v₀} {p₀} {a₀} {s₀} {x′} {f′} {e′} {m′} {v′} {p′} {a′} {s′} {r} answer is-x is-f is-e is-m is-v is-p is-a is-s =
       record {
         answer = answer;
@@ -129,7 +134,7 @@ module _ (n : ℕ) (x f e m v p a groups : List ℕ) where
       lent = length f₀ ∷ length e₀ ∷ length m₀ ∷ length v₀ ∷ length p₀ ∷ length a₀ ∷ length s₀ ∷ []
 
       known : r .accepted ≡ true → Mergeable matrices lent
-      known ok = mergeable matrices lent (accepted-all (aggregateChecks t groups matrices lent) [] (sym (ap (λ (q : Report). q .accepted) answer) ∙ ok))
+      known = accepted-known matrices lent answer
 
       whole : r .accepted ≡ true → tableOf g x′ (f′ ∷ e′ ∷ m′ ∷ v′ ∷ p′ ∷ a′ ∷ []) ≡ u
       whole ok =

@@ -1,22 +1,21 @@
 -- Question 19 of a table with six columns, which merged F, M and X decide: the merged table's other amounts are within what these are. Assumes nothing.
 use mathlib.Core.Bool.{Bool, true, false, _&&_}
 use mathlib.Core.List.{List, [], _∷_, _++_}
-use mathlib.Core.Path.{_≡_, refl, sym, ap, _∙_, subst, subst⁻¹}
-use Prim.Native.Nat.{ℕ, zero, suc, _+_, _*_, _/_, _%_, _≤_, _<_, zero-le}
-use native.Mathlib.Nat.{le-trans}
+use mathlib.Core.Path.{_≡_, refl, sym, ap, subst}
+use Prim.Native.Nat.{ℕ, zero, suc, _*_, _/_, _%_, _≤_, _<_, zero-le}
 use native.Mathlib.Decide.{decLt}
 use native.Mathlib.Omega.{arith}
 use borrow.Author.Tests.{leb-true, le-leb}
 use lib.Dec.{leb}
 use lib.ListN.{length, List·getD-eq-default}
-use Rattle.model.specs.Numbers.{all, tabulate, cell, at, matrix, transposed}
-use Rattle.model.specs.Table.{Table, tableOf, column, need, flow, adjustedExports}
+use Rattle.model.specs.Numbers.{cell, transposed}
+use Rattle.model.specs.Table.{Table, tableOf, column, flow}
 use Rattle.model.specs.Checks.{Report, Check, amountLimit, verdict, tableAmounts, exportsWithin}
 use Rattle.model.specs.Aggregation.{groupTotal, mergedFlow, mergedTable}
 use Rattle.theory.proofs.Sums.{sum-cell}
 use Rattle.theory.proofs.Lists.{length-tabulate, and-true, all-cell, all-passed}
 use Rattle.theory.proofs.Matrices.{place-row, place-column, place-cell}
-use Rattle.theory.proofs.Verdicts.{AllPass, accepted-all, all-accepted, all-pass-parts, all-pass-both}
+use Rattle.theory.proofs.Verdicts.{accepted-all, all-accepted, all-pass-parts, all-pass-both}
 use Rattle.theory_tables.specs.Tables.{TableAmounts}
 use Rattle.theory_tables.proofs.Tables.{Balanced, table-amounts, amounts-pass, exports-follow}
 use Rattle.theory_groups.specs.Groups.{totalsWithin}

@@ -1,21 +1,16 @@
 -- A table that passes questions 1 to 6 and 16 and is merged by groups that pass 18: the merged table passes them too where 19 does, and keeps its
 -- totals. Assumes nothing.
-use mathlib.Core.Bool.{Bool, true, false}
-use mathlib.Core.List.{List, [], _∷_, _++_, map}
-use mathlib.Core.Path.{_≡_, refl, sym, ap, ap₂, _∙_, subst, subst⁻¹}
-use Prim.Native.Nat.{ℕ, zero, suc, _+_, _*_, _≤_, _<_}
-use native.Mathlib.Nat.{le-trans}
-use native.Mathlib.Omega.{arith}
+use mathlib.Core.List.{List, [], _∷_, map}
+use mathlib.Core.Path.{_≡_, refl, sym, ap₂, _∙_, subst⁻¹}
+use Prim.Native.Nat.{ℕ, zero, suc, _+_, _≤_, _<_}
 use lib.ListN.{length, getD, List·getD-eq-default}
-use Rattle.model.specs.Numbers.{sum, tabulate, cell, at, matrix, transposed, columnSum, allCells}
-use Rattle.model.specs.Table.{Table, tableOf, column, absorption, finalDemand, exports, imports, valueAdded, production, adjustment, adjustedExports, flow, need}
-use Rattle.model.specs.Checks.{amountLimit}
+use Rattle.model.specs.Numbers.{sum, cell, transposed, columnSum}
+use Rattle.model.specs.Table.{Table, column, absorption, finalDemand, exports, imports, valueAdded, production, adjustment, adjustedExports, flow, need}
 use Rattle.model.specs.Aggregation.{groupTotal, mergedFlow, mergedColumn, mergedTable}
 use Rattle.model.specs.Promises.{SameTotals}
 use Rattle.theory.proofs.Sums.{sum-cong}
 use Rattle.theory.proofs.Lists.{length-tabulate, cell-tabulate}
 use Rattle.theory.proofs.Matrices.{matrix-cell}
-use Rattle.theory_tables.specs.Tables.{TableAmounts}
 use Rattle.theory_tables.proofs.Tables.{Balanced}
 use Rattle.theory_groups.proofs.Totals.{Once, total-cong, total-mono, total-add, total-none, total-kept, row-kept, column-kept, flows-kept}
 

@@ -1,11 +1,10 @@
 -- What the sectors of a group have together, and of groups that every sector is in exactly one of. Assumes nothing.
 use mathlib.Core.List.{List}
-use mathlib.Core.Path.{_≡_, refl, sym, ap, _∙_}
+use mathlib.Core.Path.{_≡_, ap, _∙_}
 use Prim.Native.Nat.{ℕ, _+_, _*_, _≤_, _<_}
 use native.Mathlib.Nat.{mul-comm, mul-one, mul-zero, mul-add, mul-le-mul-left, le-trans}
-use native.Mathlib.Omega.{arith}
 use lib.ListN.{length}
-use Rattle.model.specs.Numbers.{sum, cell, bit, columnSum, allCells, transposed}
+use Rattle.model.specs.Numbers.{sum, cell, bit, columnSum, allCells}
 use Rattle.model.specs.Aggregation.{groupTotal}
 use Rattle.theory.proofs.Bits.{bit-takes}
 use Rattle.theory.proofs.Sums.{sum-mono, sum-cong, sum-add, sum-scale, sum-swap, sum-const, sum-most}

@@ -1,51 +1,28 @@
+-- `aggregate::leave_flows` meets its contract, by cases on the answer. Assumes nothing.
+use mathlib.Core.Bool.{true}
+use mathlib.Core.Path.{_≡_, ap}
 use borrow.Author.Needs.{needs}
+use Rattle.model.specs.Checks.{report}
+use Rattle.model.specs.declared.Answer.{Answer}
 use Rattle.aggregate.proofs.leave_flows.Statement.{statement}
 use Rattle.aggregate.proofs.leave_flows.Tie as tie
-use Rattle.aggregate.proofs.leave_flows.Reads as reads
-use Rattle.aggregate.proofs.leave_flows.Lts as lts
-use Rattle.aggregate_totals.proofs.fill_flows.Reads as fill-flows-reads
-use Rattle.cells.proofs.fill_zero.Reads as fill-zero-reads
 
--- src/lib.rt:65:34
-enum-told : tie.Need-enum-told
-enum-told c = search needs
+-- where the answer is that the call was accepted
+accepted : (p : tie.After-enum-told) → report (p .before .before .before .before .before .args .answer) .accepted ≡ true
+accepted p = ap (λ (a : Answer). report a .accepted) (p .enum-told .given .1)
 
--- src/lib.rt:65:9
-fill-flows-requires : tie.Need-fill-flows-requires
-fill-flows-requires c κs = ?
-
--- src/lib.rt:66:9
-same-length : tie.Need-same-length
-same-length c = search needs
-
--- src/lib.rt:66:9
 returns : tie.Need-returns
-returns c = ?
+returns c = rw (c .before .before .before .before .enum-told .given .1) (c .before .before .fill-flows .ensures)
 
-enum-told-2 : tie.Need-enum-told-2
-enum-told-2 c = search needs
-
--- src/lib.rt:68:5
-fill-zero-requires : tie.Need-fill-zero-requires
-fill-zero-requires c κs = search needs
-
--- src/lib.rt:59:1
-same-length-2 : tie.Need-same-length-2
-same-length-2 c = search needs
-
--- src/lib.rt:59:1
 returns-2 : tie.Need-returns-2
-returns-2 c = ?
+returns-2 c = rw (c .before .before .before .before .enum-told2 .given .1) (c .before .before .fill-zero .ensures)
+
+fill-flows-requires : tie.Need-fill-flows-requires
+fill-flows-requires c κs =
+    let s = c .before .before .before .before .before .before in
+    let ok = accepted (c .before) in
+    (s .pre .0 ok, s .pre .1 ok)
 
 pub leave-flows-spec : {M : Type 1} → statement M
 leave-flows-spec =
-    tie.close
-    (tie.spec
-    enum-told
-    fill-flows-requires
-    same-length
-    returns
-    enum-told-2
-    fill-zero-requires
-    same-length-2
-    returns-2)
+    tie.close (tie.spec (λ c. search needs) fill-flows-requires (λ c. search needs) returns (λ c. search needs) (λ c κs. search needs) (λ c. search needs) returns-2)

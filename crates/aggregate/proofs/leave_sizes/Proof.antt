@@ -1,51 +1,28 @@
+-- `aggregate::leave_sizes` meets its contract, by cases on the answer. Assumes nothing.
+use mathlib.Core.Bool.{true}
+use mathlib.Core.Path.{_≡_, ap}
 use borrow.Author.Needs.{needs}
+use Rattle.model.specs.Checks.{report}
+use Rattle.model.specs.declared.Answer.{Answer}
 use Rattle.aggregate.proofs.leave_sizes.Statement.{statement}
 use Rattle.aggregate.proofs.leave_sizes.Tie as tie
-use Rattle.aggregate.proofs.leave_sizes.Reads as reads
-use Rattle.aggregate.proofs.leave_sizes.Lts as lts
-use Rattle.aggregate_totals.proofs.fill_sizes.Reads as fill-sizes-reads
-use Rattle.cells.proofs.fill_zero.Reads as fill-zero-reads
 
--- src/lib.rt:90:28
-enum-told : tie.Need-enum-told
-enum-told c = search needs
+-- where the answer is that the call was accepted
+accepted : (p : tie.After-enum-told) → report (p .before .before .before .before .args .answer) .accepted ≡ true
+accepted p = ap (λ (a : Answer). report a .accepted) (p .enum-told .given .1)
 
--- src/lib.rt:90:9
-fill-sizes-requires : tie.Need-fill-sizes-requires
-fill-sizes-requires c κs = ?
-
--- src/lib.rt:91:9
-same-length : tie.Need-same-length
-same-length c = search needs
-
--- src/lib.rt:91:9
 returns : tie.Need-returns
-returns c = ?
+returns c = rw (c .before .before .before .before .enum-told .given .1) (c .before .before .fill-sizes .ensures)
 
-enum-told-2 : tie.Need-enum-told-2
-enum-told-2 c = search needs
-
--- src/lib.rt:93:5
-fill-zero-requires : tie.Need-fill-zero-requires
-fill-zero-requires c κs = search needs
-
--- src/lib.rt:85:1
-same-length-2 : tie.Need-same-length-2
-same-length-2 c = search needs
-
--- src/lib.rt:85:1
 returns-2 : tie.Need-returns-2
-returns-2 c = ?
+returns-2 c = rw (c .before .before .before .before .enum-told2 .given .1) (c .before .before .fill-zero .ensures)
+
+fill-sizes-requires : tie.Need-fill-sizes-requires
+fill-sizes-requires c κs =
+    let s = c .before .before .before .before .before in
+    let ok = accepted (c .before) in
+    s .pre ok
 
 pub leave-sizes-spec : {M : Type 1} → statement M
 leave-sizes-spec =
-    tie.close
-    (tie.spec
-    enum-told
-    fill-sizes-requires
-    same-length
-    returns
-    enum-told-2
-    fill-zero-requires
-    same-length-2
-    returns-2)
+    tie.close (tie.spec (λ c. search needs) fill-sizes-requires (λ c. search needs) returns (λ c. search needs) (λ c κs. search needs) (λ c. search needs) returns-2)

@@ -1,8 +1,7 @@
 -- `aggregate_checks::check_groups` meets its contract: each way out has its law. Assumes nothing.
-use mathlib.Core.Bool.{Bool, true, false, _&&_}
+use mathlib.Core.Bool.{_&&_}
 use mathlib.Core.List.{List, [], _∷_}
 use mathlib.Core.Path.{_≡_, sym, _∙_}
-use borrow.Author.Needs.{needs}
 use borrow.Author.Tests.{not-true, not-false}
 use Rattle.model.specs.Table.{tableOf}
 use Rattle.model.specs.Checks.{Check, single, verdict}

@@ -1,5 +1,5 @@
 -- `aggregate_checks::check_lengths` meets its contract: each way out has its law. Assumes nothing.
-use mathlib.Core.Bool.{Bool, true, false, _&&_}
+use mathlib.Core.Bool.{Bool, true, _&&_}
 use mathlib.Core.List.{List, [], _∷_}
 use mathlib.Core.Path.{_≡_, sym, _∙_}
 use Prim.Native.Nat.{ℕ, _≤_}
@@ -8,7 +8,7 @@ use borrow.Author.Needs.{needs}
 use borrow.Author.Tests.{not-true, not-false, le-leb}
 use lib.Dec.{leb}
 use Rattle.model.specs.Table.{sectorLimit, fewSectors}
-use Rattle.model.specs.Checks.{Check, verdict, single, size, lengths}
+use Rattle.model.specs.Checks.{Check, single, size, lengths}
 use Rattle.theory.proofs.Lists.{from-one}
 use Rattle.theory.proofs.Verdicts.{single-passed, single-failed, answered-pass, answered-on, answered-end, sized}
 use Rattle.aggregate_checks.proofs.check_lengths.Statement.{statement}

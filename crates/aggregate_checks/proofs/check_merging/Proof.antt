@@ -5,14 +5,14 @@ use mathlib.Core.Path.{_≡_, refl, ap, _∙_}
 use Prim.Native.Nat.{ℕ}
 use native.Mathlib.Nat.{le-refl}
 use borrow.Author.Needs.{needs}
-use lib.Dec.{leb, lit<}
+use lib.Dec.{lit<}
 use lib.ListN.{length}
 use Rattle.model.specs.Table.{Table, tableOf}
 use Rattle.model.specs.Checks.{Check, verdict, single, size, lengths, tableAmounts, balanceChecks}
 use Rattle.model.specs.Aggregation.{groupLengths, partitioned, mergedWithin, aggregateReport}
 use Rattle.theory.proofs.Lists.{from-one}
 use Rattle.theory.proofs.Verdicts.{AllPass, answered-pass, answered-on, answered-end, all-pass-parts, asked-both}
-use Rattle.theory_tables.specs.Tables.{TableSizes, TableAmounts}
+use Rattle.theory_tables.specs.Tables.{TableSizes}
 use Rattle.theory_tables.proofs.Tables.{table-sizes, table-amounts, balanced}
 use Rattle.theory_groups.specs.Groups.{totalsWithin}
 use Rattle.theory_groups.proofs.Partitions.{partition}

@@ -1,6 +1,6 @@
 -- `aggregate_checks::count_groups` meets its contract: count is the number of groups before k that the sector is in. Assumes nothing.
 use mathlib.Core.Path.{_≡_, refl}
-use Prim.Native.Nat.{ℕ, _-_, _≤_}
+use Prim.Native.Nat.{_-_, _≤_}
 use native.Mathlib.Omega.{arith}
 use lib.ListN.{length}
 use Rattle.model.specs.Numbers.{sum, cell, bit}

@@ -1,5 +1,5 @@
 -- `aggregate_checks::is_partition` meets its contract: each way out has its test. Assumes nothing.
-use mathlib.Core.Path.{_≡_, sym, _∙_}
+use mathlib.Core.Path.{sym, _∙_}
 use borrow.Author.Needs.{needs}
 use borrow.Author.Tests.{not-true, not-false}
 use Rattle.aggregate_checks.proofs.is_partition.Statement.{statement}

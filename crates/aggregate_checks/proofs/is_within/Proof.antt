@@ -1,10 +1,8 @@
 -- `aggregate_checks::is_within` meets its contract: each way out has its test. Assumes nothing.
-use mathlib.Core.Bool.{true, false}
+use mathlib.Core.Bool.{true}
 use mathlib.Core.Path.{_≡_, sym, _∙_}
-use Prim.Native.Nat.{ℕ, _*_, _≤_, _<_}
 use native.Mathlib.Omega.{arith}
 use borrow.Author.Tests.{not-true, not-false}
-use Rattle.theory.proofs.Lists.{and-last-false}
 use Rattle.theory_groups.specs.Groups.{totalsWithin}
 use Rattle.aggregate_checks.proofs.is_within.Statement.{statement}
 use Rattle.aggregate_checks.proofs.is_within.Tie as tie

@@ -1,14 +1,13 @@
 -- `aggregate_totals::fill_purchases` meets its contract: the cells below i are what the group buys of their sectors. Assumes nothing.
-use mathlib.Core.Path.{_≡_, _∙_}
-use Prim.Native.Nat.{ℕ, _+_, _*_, _-_, _≤_, _<_}
+use mathlib.Core.Path.{_∙_}
+use Prim.Native.Nat.{_+_, _*_, _-_, _≤_}
 use native.Mathlib.Nat.{mul-le-mul}
 use native.Mathlib.Omega.{arith}
-use Rattle.model.specs.Numbers.{at, cell}
+use Rattle.model.specs.Numbers.{at}
 use Rattle.model.specs.Table.{sectorLimit}
-use Rattle.model.specs.Checks.{amountLimit}
 use Rattle.model.specs.Aggregation.{groupTotal}
 use Rattle.theory.proofs.Lists.{Front, front-none, front-set, front-done}
-use Rattle.cells.proofs.RowLaws.{row, row-within, row-length, row-cell}
+use Rattle.cells.proofs.RowLaws.{row-within, row-length, row-cell}
 use Rattle.theory_groups.proofs.Totals.{total-cong}
 use Rattle.aggregate_totals.proofs.fill_purchases.Statement.{statement}
 use Rattle.aggregate_totals.proofs.fill_purchases.Tie as tie

@@ -1,9 +1,8 @@
 -- `aggregate_totals::group_total` meets its contract: total is what the sectors before i have together in the group. Assumes nothing.
 use mathlib.Core.Path.{_≡_, refl}
-use Prim.Native.Nat.{ℕ, _*_, _≤_, _-_, _<_}
+use Prim.Native.Nat.{_*_, _≤_, _-_, _<_}
 use native.Mathlib.Nat.{le-trans}
 use native.Mathlib.Omega.{arith}
-use lib.ListN.{length}
 use Rattle.model.specs.Numbers.{sum, cell, bit}
 use Rattle.model.specs.Table.{sectorLimit}
 use Rattle.model.specs.Checks.{amountLimit}
