@@ -13,7 +13,8 @@ use Rattle.model.specs.Table.{Table}
 use Rattle.model.specs.Rounds.{settling, inverseRounds, impactRounds}
 use Rattle.model.specs.Checks.{Report, reportRead, reportTold, Check, amountLimit, balanceChecks, bothSettle, verdict, columnSums, columnsSettle, demandChecks, demandLeft, demandLimit, inducedAmounts, lengths, productionTotal, riseLimit, single, size}
 use Rattle.model.specs.Calls.{coefficientsReport, domesticCoefficients, impactReport, impliedReport, inducedReport, inverseReport, matrixChecks, priceReport, productionReport, settlingChecks, tableChecks}
-use Rattle.model.specs.Contracts.{Derived, Produced, Priced, Compared, Implied, Induced, Inverted, Slices, readingInto, FileRead, FileWritten, tableFrom, PagePrinted}
+use Rattle.model.specs.Aggregation.{partitioned, mergedWithin, aggregateChecks, aggregateReport}
+use Rattle.model.specs.Contracts.{Derived, Aggregated, Produced, Priced, Compared, Implied, Induced, Inverted, Slices, readingInto, FileRead, FileWritten, tableFrom, PagePrinted}
 use Rattle.model.specs.File.{Reading, answerOf}
 use Rattle.model.specs.Writer.{written, writerChecks, writerReport}
 use Rattle.model.specs.Page.{page, pageLimit, pageReport}
@@ -46,6 +47,12 @@ module _ (t : Table) (matrices lent : List ℕ) where
   coefficients-number =
       let seventh = columnSums (t .sectors) (at (t .sectors) (domesticCoefficients t)) ∷ [] in
       numbered (tableChecks t matrices lent ++ seventh) [] (counted-pass (leb 1) 0 amountLimit (t .flows ∷ t .columns) (balanceChecks t) seventh refl refl)
+
+  pub aggregate-number : (groups : List ℕ) → Numbered (aggregateReport t groups matrices lent)
+  unfolding aggregateReport
+  aggregate-number groups =
+      numbered (aggregateChecks t groups matrices lent) []
+      (counted-pass (leb 1) 0 amountLimit (t .flows ∷ t .columns) (balanceChecks t) (partitioned t groups ∷ mergedWithin t groups ∷ []) refl refl)
 
 module _ (n : ℕ) (d : List ℕ) where
   pub production-number : (f : List ℕ) (budget : ℕ) (lent : List ℕ) → Numbered (productionReport n d f budget lent)
@@ -105,6 +112,10 @@ module _ {number place : ℕ} {counts : List ℕ} where
     pub derived-told : {t : Table} {a₀ v₀ m₀ d₀ f₀ a v m d f : List ℕ} → Derived t a₀ v₀ m₀ d₀ f₀ r a v m d f
         → Derived t a₀ v₀ m₀ d₀ f₀ (reportTold number place counts) a v m d f
     derived-told {t} made = rw (as-told r told (made .answer) (coefficients-number t _ _)) made
+
+    pub aggregated-told : {t u₀ u : Table} {groups sizes₀ sizes : List ℕ} → Aggregated t groups u₀ sizes₀ r u sizes
+        → Aggregated t groups u₀ sizes₀ (reportTold number place counts) u sizes
+    aggregated-told {t} {u₀} {u} {groups} made = rw (as-told r told (made .answer) (aggregate-number t _ _ groups)) made
 
     pub produced-told : {n budget : ℕ} {d f o w out work : List ℕ} → Produced n d f budget o w r out work
         → Produced n d f budget o w (reportTold number place counts) out work
