@@ -24,14 +24,14 @@ returns c =
     let q = k .before in
     let p = q .before in
     let a = entry p .args in
-    sym (made-failed (eqb 1) (a .n) (inGroups (a .groups .now)) (p .loop .i) (q .loop-test .taken) (ne-eqb 1 _ (λ e. c .if1 .taken (k .count-groups .ensures ∙ sym e))))
+    sym (made-failed (eqb 1) (a .n) (inGroups (a .groups .now)) (p .loop .i) (q .loop-test .taken) (ne-eqb 1 (inGroups (a .groups .now) (p .loop .i)) (λ e. omega (arith, e, c .if1 .taken, k .count-groups .ensures))))
 
 loop-again : tie.Need-loop-again Inv-loop μ-loop
 loop-again c =
     let k = c .before in
     let p = k .before .before in
     let a = entry p .args in
-    (omega arith, all-more (λ i. eqb 1 (inGroups (a .groups .now) i)) (p .loop .i) (p .loop .inv .1) (eq-eqb 1 _ (sym (c .if1 .left) ∙ k .count-groups .ensures)))
+    (omega arith, all-more (λ i. eqb 1 (inGroups (a .groups .now) i)) (p .loop .i) (p .loop .inv .1) (eq-eqb 1 (inGroups (a .groups .now) (p .loop .i)) (omega (arith, c .if1 .left, k .count-groups .ensures))))
 
 returns-2 : tie.Need-returns-2 Inv-loop μ-loop
 returns-2 c =

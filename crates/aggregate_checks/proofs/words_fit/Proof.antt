@@ -24,21 +24,21 @@ returns c =
     let q = c .before .before in
     let p = q .before in
     let a = p .before .args in
-    sym (all-failed (fits (a .n)) (a .groups .now) (p .loop .k) (q .loop-test .taken) (empty (a .n) (word p) (c .if1 .taken)))
+    sym (all-failed (fits (a .n)) (a .groups .now) (p .loop .k) (q .loop-test .taken) (empty (a .n) (word p) (omega (arith, c .if1 .taken))))
 
 returns-2 : tie.Need-returns-2 Inv-loop μ-loop
 returns-2 c =
     let q = c .before .before .before .before in
     let p = q .before in
     let a = p .before .args in
-    sym (all-failed (fits (a .n)) (a .groups .now) (p .loop .k) (q .loop-test .taken) (above (a .n) (word p) (c .if2 .taken)))
+    sym (all-failed (fits (a .n)) (a .groups .now) (p .loop .k) (q .loop-test .taken) (above (a .n) (word p) (λ e. c .if2 .taken (omega (arith, e)))))
 
 loop-again : tie.Need-loop-again Inv-loop μ-loop
 loop-again c =
     let e = c .before .before in
     let p = e .before .before .before in
     let a = p .before .args in
-    (omega arith, all-more (λ j. fits (a .n) (cell (a .groups .now) j)) (p .loop .k) (p .loop .inv .1) (below (a .n) (word p) (e .if1 .left) (c .if2 .left)))
+    (omega arith, all-more (λ j. fits (a .n) (cell (a .groups .now) j)) (p .loop .k) (p .loop .inv .1) (below (a .n) (word p) (omega (arith, e .if1 .left)) (omega (arith, c .if2 .left))))
 
 returns-3 : tie.Need-returns-3 Inv-loop μ-loop
 returns-3 c =
