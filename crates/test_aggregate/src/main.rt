@@ -29,11 +29,16 @@ fn show_merged(
     show_end();
 }
 
-// The answer to a table of n sectors, its columns one after the other, and the merged table.
+// The answer to a table, and the merged table.
 fn merge(
     n: usize,
     flows: &[u64],
-    columns: &[u64],
+    demand: &[u64],
+    exports: &[u64],
+    imports: &[u64],
+    value: &[u64],
+    production: &[u64],
+    item: &[u64],
     groups: &[u64],
     x: &mut [u64],
     f: &mut [u64],
@@ -44,21 +49,15 @@ fn merge(
     g: &mut [u64],
     sizes: &mut [u64],
 ) {
-    if 13 < n {
-        return;
-    }
-    if columns.len() != 6 * n {
-        return;
-    }
     show_answer(aggregate(
         n,
         flows,
-        &columns[0..n],
-        &columns[n..2 * n],
-        &columns[2 * n..3 * n],
-        &columns[3 * n..4 * n],
-        &columns[4 * n..5 * n],
-        &columns[5 * n..6 * n],
+        demand,
+        exports,
+        imports,
+        value,
+        production,
+        item,
         groups,
         x,
         f,
@@ -72,90 +71,23 @@ fn merge(
     show_merged(x, f, e, m, v, p, g, sizes);
 }
 
-// With slices for one group.
-fn into_one(name: &[u8], n: usize, x: &[u64], columns: &[u64], groups: &[u64]) {
-    let mut merged = [7u64; 1];
-    let mut f = [7u64; 1];
-    let mut e = [7u64; 1];
-    let mut m = [7u64; 1];
-    let mut v = [7u64; 1];
-    let mut p = [7u64; 1];
-    let mut g = [7u64; 1];
-    let mut sizes = [7u64; 1];
-    show_word(name);
-    merge(
-        n,
-        x,
-        columns,
-        groups,
-        &mut merged,
-        &mut f,
-        &mut e,
-        &mut m,
-        &mut v,
-        &mut p,
-        &mut g,
-        &mut sizes,
-    );
-}
-
-// With slices for two groups.
-fn into_two(name: &[u8], n: usize, x: &[u64], columns: &[u64], groups: &[u64]) {
-    let mut merged = [7u64; 4];
-    let mut f = [7u64; 2];
-    let mut e = [7u64; 2];
-    let mut m = [7u64; 2];
-    let mut v = [7u64; 2];
-    let mut p = [7u64; 2];
-    let mut g = [7u64; 2];
-    let mut sizes = [7u64; 2];
-    show_word(name);
-    merge(
-        n,
-        x,
-        columns,
-        groups,
-        &mut merged,
-        &mut f,
-        &mut e,
-        &mut m,
-        &mut v,
-        &mut p,
-        &mut g,
-        &mut sizes,
-    );
-}
-
-// With slices for four.
-fn into_four(name: &[u8], n: usize, x: &[u64], columns: &[u64], groups: &[u64]) {
-    let mut merged = [7u64; 16];
-    let mut f = [7u64; 4];
-    let mut e = [7u64; 4];
-    let mut m = [7u64; 4];
-    let mut v = [7u64; 4];
-    let mut p = [7u64; 4];
-    let mut g = [7u64; 4];
-    let mut sizes = [7u64; 4];
-    show_word(name);
-    merge(
-        n,
-        x,
-        columns,
-        groups,
-        &mut merged,
-        &mut f,
-        &mut e,
-        &mut m,
-        &mut v,
-        &mut p,
-        &mut g,
-        &mut sizes,
-    );
-}
-
-// With slices for thirteen.
-fn into_thirteen(name: &[u8], n: usize, x: &[u64], columns: &[u64], groups: &[u64]) {
-    let mut merged = [7u64; 169];
+// With slices for so many groups as there are, up to 13.
+fn lend(
+    n: usize,
+    flows: &[u64],
+    demand: &[u64],
+    exports: &[u64],
+    imports: &[u64],
+    value: &[u64],
+    production: &[u64],
+    item: &[u64],
+    groups: &[u64],
+) {
+    let count = groups.len();
+    if 13 < count {
+        return;
+    }
+    let mut x = [7u64; 169];
     let mut f = [7u64; 13];
     let mut e = [7u64; 13];
     let mut m = [7u64; 13];
@@ -163,25 +95,46 @@ fn into_thirteen(name: &[u8], n: usize, x: &[u64], columns: &[u64], groups: &[u6
     let mut p = [7u64; 13];
     let mut g = [7u64; 13];
     let mut sizes = [7u64; 13];
-    show_word(name);
     merge(
         n,
-        x,
-        columns,
+        flows,
+        demand,
+        exports,
+        imports,
+        value,
+        production,
+        item,
         groups,
-        &mut merged,
-        &mut f,
-        &mut e,
-        &mut m,
-        &mut v,
-        &mut p,
-        &mut g,
-        &mut sizes,
+        &mut x[..count * count],
+        &mut f[..count],
+        &mut e[..count],
+        &mut m[..count],
+        &mut v[..count],
+        &mut p[..count],
+        &mut g[..count],
+        &mut sizes[..count],
     );
 }
 
-// The example of 13 sectors: x row by row, then F, E, M, V, X and G.
-fn region() {
+// A table by its flows row by row and its columns one after the other: F, E, M, V, X and G.
+fn table(name: &[u8], flows: &[u64], columns: &[u64], groups: &[u64]) {
+    let n = columns.len() / 6;
+    show_word(name);
+    lend(
+        n,
+        flows,
+        &columns[0..n],
+        &columns[n..2 * n],
+        &columns[2 * n..3 * n],
+        &columns[3 * n..4 * n],
+        &columns[4 * n..5 * n],
+        &columns[5 * n..6 * n],
+        groups,
+    );
+}
+
+// The example of 13 sectors.
+fn region(name: &[u8], groups: &[u64]) {
     let x = [
         7781,
         2661,
@@ -433,66 +386,42 @@ fn region() {
         0,
         0,
     ];
-    into_four(b"region to four", 13, &x, &columns, &[4097, 170, 84, 3840]);
-    into_thirteen(
-        b"region by single sectors",
-        13,
-        &x,
-        &columns,
+    table(name, &x, &columns, groups);
+}
+
+fn four(name: &[u8], groups: [u64; 4]) {
+    region(name, &groups);
+}
+
+fn regions() {
+    four(b"region to four", [4097, 170, 84, 3840]);
+    four(b"in the other order", [3840, 84, 170, 4097]);
+    region(
+        b"by single sectors",
         &[1, 2, 4, 8, 16, 32, 64, 128, 256, 512, 1024, 2048, 4096],
     );
-    into_one(b"region in one", 13, &x, &columns, &[8191]);
+    region(b"in one", &[8191]);
+    region(b"no group", &[]);
 }
 
-// Three sectors with an adjustment item, into two groups.
-fn three(name: &[u8], groups: &[u64]) {
-    into_two(
-        name,
-        3,
-        &[10, 20, 30, 40, 50, 60, 70, 80, 90],
-        &[
-            100,
-            200,
-            300,
-            95,
-            7,
-            11,
-            45,
-            60,
-            170,
-            100,
-            150,
-            205,
-            220,
-            300,
-            385,
-            10,
-            3,
-            4,
-        ],
-        groups,
-    );
+fn no_partitions() {
+    four(b"a sector in no group", [4097, 170, 80, 3840]);
+    four(b"a sector in two groups", [4097, 171, 84, 3840]);
+    four(b"an empty group", [4097, 254, 0, 3840]);
+    four(b"a bit at n", [12289, 170, 84, 3840]);
+    four(b"the highest bit", [4097, 170, 84, 9223372036854779648]);
 }
 
-fn groups() {
-    three(b"first and last", &[5, 2]);
-    three(b"in the other order", &[2, 5]);
-    three(b"no group", &[]);
-    three(b"one group for two slices", &[7]);
-    three(b"a sector in no group", &[1, 2]);
-    three(b"a sector in two groups", &[3, 6]);
-    three(b"an empty group", &[7, 0]);
-    three(b"a bit at n", &[5, 10]);
-    three(b"the highest bit", &[5, 9223372036854775810]);
+// Two sectors without flows, as one.
+fn two(name: &[u8], columns: [u64; 12], group: u64) {
+    table(name, &[0; 4], &columns, &[group]);
 }
 
-// Two sectors that make 600,000,000 and an amount for final demand alone, as one.
+// They make 600,000,000 and another amount, for final demand.
 fn for_demand(name: &[u8], amount: u64, group: u64) {
-    into_one(
+    two(
         name,
-        2,
-        &[0; 4],
-        &[
+        [
             600000000,
             amount,
             0,
@@ -506,17 +435,15 @@ fn for_demand(name: &[u8], amount: u64, group: u64) {
             0,
             0,
         ],
-        &[group],
+        group,
     );
 }
 
-// Two sectors that sell abroad what they make, half of it by the adjustment item, as one.
+// They sell abroad what they make, some of it by the adjustment item.
 fn abroad(name: &[u8], amount: u64) {
-    into_one(
+    two(
         name,
-        2,
-        &[0; 4],
-        &[
+        [
             0,
             0,
             300000000,
@@ -530,18 +457,16 @@ fn abroad(name: &[u8], amount: u64) {
             300000000,
             amount,
         ],
-        &[3],
+        3,
     );
 }
 
-// Two sectors whose imports are needed by final demand, as one.
+// They make nothing, and import for final demand.
 fn imported(name: &[u8], amount: u64) {
-    into_one(
+    two(
         name,
-        2,
-        &[0; 4],
-        &[600000000, amount, 0, 0, 600000000, amount, 0, 0, 0, 0, 0, 0],
-        &[3],
+        [600000000, amount, 0, 0, 600000000, amount, 0, 0, 0, 0, 0, 0],
+        3,
     );
 }
 
@@ -551,37 +476,32 @@ fn limits() {
     for_demand(b"over the limit, and a bit at n", 400000001, 7);
     abroad(b"exports at the limit", 400000000);
     abroad(b"exports over the limit", 400000001);
-    imported(b"imports at the limit", 400000000);
     imported(b"imports over the limit", 400000001);
 }
 
-// One sector, with slices for one group.
-fn single(name: &[u8], columns: [u64; 6], group: u64) {
-    into_one(name, 1, &[0], &columns, &[group]);
+// One sector without flows, in no group.
+fn alone(name: &[u8], columns: [u64; 6]) {
+    table(name, &[0], &columns, &[0]);
 }
 
 fn earlier_questions() {
-    single(
+    alone(
         b"an amount over, and no sector",
         [1000000001, 0, 0, 0, 0, 0],
-        0,
     );
-    single(
-        b"exports over, and no sector",
-        [0, 1000000000, 0, 0, 0, 1],
-        0,
-    );
-    single(b"column off, and no sector", [0, 0, 0, 0, 1, 0], 0);
-    single(b"row off, and no sector", [1, 0, 0, 0, 0, 0], 0);
-    single(b"imports over need, and no sector", [0, 10, 5, 5, 5, 0], 0);
-    into_two(b"more groups than sectors", 1, &[0], &[0; 6], &[1, 0]);
-    into_one(b"flows short", 2, &[0; 3], &[0; 12], &[3]);
-    into_one(b"no sectors", 0, &[], &[], &[1]);
+    alone(b"exports over, and no sector", [0, 1000000000, 0, 0, 0, 1]);
+    alone(b"imports over need, and no sector", [0, 10, 5, 5, 5, 0]);
+}
+
+fn lengths() {
+    table(b"more groups than sectors", &[0], &[0; 6], &[1, 0]);
+    table(b"no sectors", &[], &[], &[1]);
 }
 
 fn main() {
-    region();
-    groups();
+    regions();
+    no_partitions();
     limits();
     earlier_questions();
+    lengths();
 }
