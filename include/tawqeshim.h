@@ -39,7 +39,7 @@ extern "C" {
 #endif
 
 /* The version of this header; scripts/version prints and sets it. A change of the first number changes what callers see. */
-#define TAWQESHIM_VERSION "3.0.0"
+#define TAWQESHIM_VERSION "3.1.0"
 
 /* The version of the library that a program runs with. */
 extern const char tawqeshim_version[];
@@ -189,7 +189,7 @@ void tawqeshim_coefficients(
  *
  * The merged table passes 1 to 6 and 16. The totals of x and of each column are those before, and the sizes sum to n. The rises that a
  * table file may carry are no part of merging.
- * Question 7 is not asked: a table that it refuses can be merged too. NOTHING IS PROMISED of 7 after merging, or of multipliers. Sheets
+ * Question 7 is not asked: a table that it refuses can be merged too. Nothing is promised of 7 after merging, or of multipliers: sheets
  * from the merged table may be refused, by 7 alone, also where those of the table before are accepted. Its coefficients, its inverse and
  * what is worked out with them are figures of their own, not sums of those before.
  *

@@ -71,7 +71,7 @@ from numbers import Integral
 from pathlib import Path
 from typing import Any, Callable, NamedTuple, NoReturn, Optional, Protocol, Union
 
-__version__ = "3.0.0"
+__version__ = "3.1.0"
 __all__ = ["PRODUCTION_BUDGET", "PRICE_BUDGET", "QUESTIONS", "Refused", "Coefficients", "Production", "Impact", "Prices", "Induced",
            "Inverse", "Table", "Aggregate", "coefficients", "aggregate", "production", "impact", "price", "implied_demand", "induced",
            "inverse", "row", "read_table", "write_table", "page"]
