@@ -12,8 +12,8 @@ ghost use lib.ListN.{length};
 ghost use Rattle.model.specs.Numbers.{all, cell, tabulate, wordPositions};
 ghost use Rattle.model.specs.Table.{sectorLimit, tableOf};
 ghost use Rattle.model.specs.Checks.{amountLimit, lengths, report, single, size, verdict};
-ghost use Rattle.model.specs.Aggregation.{aggregateReport, partitioned};
-ghost use Rattle.theory_groups.specs.Groups.{fits, inGroups, totalsWithin};
+ghost use Rattle.model.specs.Aggregation.{aggregateReport, groupCount, groupFits, isPartition};
+ghost use Rattle.theory_groups.specs.Groups.{decidingWithin};
 
 // Is the number of groups from 1 to n?
 fn is_counted(n: usize, g: usize) -> bool
@@ -52,7 +52,7 @@ fn check_lengths(
 // In how many groups is a sector?
 fn count_groups(groups: &[u64], sector: usize) -> u64
     requires { ⌜ sector < wordPositions ⌝ }
-    ensures { λ r. ⌜ r ≡ inGroups (now (groups .entry)) sector ⌝ }
+    ensures { λ r. ⌜ r ≡ groupCount (now (groups .entry)) sector ⌝ }
 {
     let mut count: u64 = 0;
     for k in 0..groups.len() {
@@ -64,7 +64,7 @@ fn count_groups(groups: &[u64], sector: usize) -> u64
 // Is every sector in one group, no more and no less?
 fn each_in_one(n: usize, groups: &[u64]) -> bool
     requires { ⌜ n ≤ sectorLimit ⌝ }
-    ensures { λ r. ⌜ r ≡ all (eqb 1) (tabulate n (inGroups (now (groups .entry)))) ⌝ }
+    ensures { λ r. ⌜ r ≡ all (eqb 1) (tabulate n (groupCount (now (groups .entry)))) ⌝ }
 {
     for i in 0..n {
         if count_groups(groups, i) != 1 {
@@ -77,7 +77,7 @@ fn each_in_one(n: usize, groups: &[u64]) -> bool
 // Has every group a sector, and none a bit at n or above?
 fn words_fit(n: usize, groups: &[u64]) -> bool
     requires { ⌜ n ≤ sectorLimit ⌝ }
-    ensures { λ r. ⌜ r ≡ all (fits n) (now (groups .entry)) ⌝ }
+    ensures { λ r. ⌜ r ≡ all (groupFits n) (now (groups .entry)) ⌝ }
 {
     for k in 0..groups.len() {
         if groups[k] < 1 {
@@ -93,7 +93,7 @@ fn words_fit(n: usize, groups: &[u64]) -> bool
 // Question 18: is every sector in one group, no group empty, and no bit at n or above set?
 fn is_partition(n: usize, groups: &[u64]) -> bool
     requires { ⌜ n ≤ sectorLimit ⌝ }
-    ensures { λ r. ⌜ r ≡ (all (eqb 1) (tabulate n (inGroups (now (groups .entry)))) && all (fits n) (now (groups .entry))) ⌝ }
+    ensures { λ r. ⌜ r ≡ isPartition n (now (groups .entry)) ⌝ }
 {
     if !each_in_one(n, groups) {
         return false;
@@ -111,7 +111,7 @@ fn is_within(
 ) -> bool
     requires { ⌜ (n ≤ sectorLimit) × (length (now «final_demand») ≡ n) × (length (now imports) ≡ n) × (length (now production) ≡ n) ⌝ }
     requires { ⌜ ((k : ℕ) → (cell (now «final_demand») k ≤ amountLimit) × (cell (now imports) k ≤ amountLimit) × (cell (now production) k ≤ amountLimit)) ⌝ }
-    ensures { λ r. ⌜ r ≡ (totalsWithin n (now (groups .entry)) (now («final_demand» .entry)) && totalsWithin n (now (groups .entry)) (now (imports .entry)) && totalsWithin n (now (groups .entry)) (now (production .entry))) ⌝ }
+    ensures { λ r. ⌜ r ≡ decidingWithin n (now (groups .entry)) (now («final_demand» .entry)) (now (imports .entry)) (now (production .entry)) ⌝ }
 {
     if !totals_within(n, groups, final_demand) {
         return false;
@@ -132,8 +132,7 @@ fn check_groups(
 ) -> Answer
     requires { ⌜ (n ≤ sectorLimit) × (length (now «final_demand») ≡ n) × (length (now imports) ≡ n) × (length (now production) ≡ n) ⌝ }
     requires { ⌜ ((k : ℕ) → (cell (now «final_demand») k ≤ amountLimit) × (cell (now imports) k ≤ amountLimit) × (cell (now production) k ≤ amountLimit)) ⌝ }
-    ensures { λ r. ⌜ report r ≡ verdict (partitioned (tableOf n [] []) (now (groups .entry))
-        ∷ single 19 (totalsWithin n (now (groups .entry)) (now («final_demand» .entry)) && totalsWithin n (now (groups .entry)) (now (imports .entry)) && totalsWithin n (now (groups .entry)) (now (production .entry))) ∷ []) [] ⌝ }
+    ensures { λ r. ⌜ report r ≡ verdict (single 18 (isPartition n (now (groups .entry))) ∷ single 19 (decidingWithin n (now (groups .entry)) (now («final_demand» .entry)) (now (imports .entry)) (now (production .entry))) ∷ []) [] ⌝ }
 {
     if !is_partition(n, groups) {
         return Answer::Refused {

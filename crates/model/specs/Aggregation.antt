@@ -1,5 +1,5 @@
 -- Document 02, ticket 7, "Merging sectors". A group is one 64-bit word, which has bit i where sector i is in the group.
-use mathlib.Core.Bool.{_&&_}
+use mathlib.Core.Bool.{Bool, _&&_}
 use mathlib.Core.List.{List, [], _∷_, _++_, map}
 use Prim.Native.Nat.{ℕ, _*_, _^_}
 use lib.Dec.{eqb, leb, ltb}
@@ -15,6 +15,18 @@ groupTotal n group f = sum n (λ i. bit group i * f i)
 -- "how many sectors each group took in"
 unfoldable pub groupSizes : (n : ℕ) (groups : Cells) → Cells
 groupSizes n groups = tabulate (length groups) (λ k. sum n (bit (cell groups k)))
+
+-- in how many groups sector i is
+abbrev pub groupCount : (groups : Cells) → ℕ → ℕ
+groupCount groups i = sum (length groups) (λ k. bit (cell groups k) i)
+
+-- a group is not empty, and has no bit at n or above
+abbrev pub groupFits : (n group : ℕ) → Bool
+groupFits n group = ltb 0 group && ltb group (2 ^ n)
+
+-- every sector is in one group, no more and no less, and every group fits
+abbrev pub isPartition : (n : ℕ) (groups : Cells) → Bool
+isPartition n groups = all (eqb 1) (tabulate n (groupCount groups)) && all (groupFits n) groups
 
 module _ (t : Table) (groups : Cells) where
   -- "Group k becomes sector k. Cells of merged rows and columns are added": what the sectors of group k sell to those of group l
@@ -32,12 +44,9 @@ module _ (t : Table) (groups : Cells) where
   abbrev pub groupLengths : (matrices lent : List ℕ) → List Check
   groupLengths matrices lent = single 2 (leb 1 (length groups) && leb (length groups) (t .sectors)) ∷ lengths (length groups) matrices lent ∷ []
 
-  -- 18. every sector is in one group, no more and no less; no group is empty, and none has a bit at n or above
+  -- 18. "if a sector is in no group or in two, a group is empty, or a bit at n or above is set"
   abbrev pub partitioned : Check
-  partitioned =
-      single 18
-      (all (eqb 1) (tabulate (t .sectors) (λ i. sum (length groups) (λ k. bit (cell groups k) i)))
-      && all (λ group. ltb 0 group && ltb group (2 ^ t .sectors)) groups)
+  partitioned = single 18 (isPartition (t .sectors) groups)
 
   -- 19. the merged table's amounts are within their limit, and so is its E plus G: its questions 3 and 16, without a place
   abbrev pub mergedWithin : Check

@@ -18,7 +18,7 @@ use Rattle.theory.proofs.Matrices.{place-row, place-column, place-cell}
 use Rattle.theory.proofs.Verdicts.{accepted-all, all-accepted, all-pass-parts, all-pass-both}
 use Rattle.theory_tables.specs.Tables.{TableAmounts}
 use Rattle.theory_tables.proofs.Tables.{Balanced, table-amounts, amounts-pass, exports-follow}
-use Rattle.theory_groups.specs.Groups.{totalsWithin}
+use Rattle.theory_groups.specs.Groups.{totalsWithin, decidingWithin}
 use Rattle.theory_groups.proofs.Totals.{Once}
 use Rattle.theory_groups.proofs.Merging.{merged-cell, merged-past, merged-columns, merged-rows, merged-covered}
 
@@ -89,7 +89,7 @@ module _ (n : ℕ) (x f e m v p a groups : List ℕ) (once : Once n groups) (som
     }
 
     -- so question 19 is that of these three columns
-    pub limits-same : totalsWithin n groups f && totalsWithin n groups m && totalsWithin n groups p ≡ verdict (tableAmounts u ++ (exportsWithin u ∷ [])) [] .accepted
+    pub limits-same : decidingWithin n groups f m p ≡ verdict (tableAmounts u ++ (exportsWithin u ∷ [])) [] .accepted
     limits-same = both-ways _ _ within decides
       where
         both-ways : (a b : Bool) → (a ≡ true → b ≡ true) → (b ≡ true → a ≡ true) → a ≡ b
@@ -100,7 +100,7 @@ module _ (n : ℕ) (x f e m v p a groups : List ℕ) (once : Once n groups) (som
         asked : List Check
         asked = tableAmounts u ++ (exportsWithin u ∷ [])
 
-        within : totalsWithin n groups f && totalsWithin n groups m && totalsWithin n groups p ≡ true → verdict asked [] .accepted ≡ true
+        within : decidingWithin n groups f m p ≡ true → verdict asked [] .accepted ≡ true
         within e =
             let q = and-true (totalsWithin n groups f && totalsWithin n groups m) (totalsWithin n groups p) e in
             let r = and-true (totalsWithin n groups f) (totalsWithin n groups m) (q .0) in
@@ -109,7 +109,7 @@ module _ (n : ℕ) (x f e m v p a groups : List ℕ) (once : Once n groups) (som
             (all-accepted asked []
             (all-pass-both (tableAmounts u) (exportsWithin u ∷ []) (amounts-pass u small) (λ k h. le-leb _ _ (merged-balanced small .exports k h), tt)))
 
-        decides : verdict asked [] .accepted ≡ true → totalsWithin n groups f && totalsWithin n groups m && totalsWithin n groups p ≡ true
+        decides : verdict asked [] .accepted ≡ true → decidingWithin n groups f m p ≡ true
         decides e =
             let small = table-amounts u (all-pass-parts (tableAmounts u) (exportsWithin u ∷ []) (accepted-all asked [] e) .0) in
             rw (totals-pass t groups 0 (small .columns 0), totals-pass t groups 2 (small .columns 2), totals-pass t groups 4 (small .columns 4))

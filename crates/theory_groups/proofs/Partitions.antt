@@ -9,11 +9,10 @@ use lib.ListN.{length}
 use lib.Pow.{pow-mono}
 use Rattle.model.specs.Numbers.{sum, all, tabulate, cell, bit, wordPositions, setPositions}
 use Rattle.model.specs.Table.{Table}
-use Rattle.model.specs.Aggregation.{groupSizes, partitioned}
+use Rattle.model.specs.Aggregation.{groupSizes, groupCount, groupFits, partitioned}
 use Rattle.theory.proofs.Sums.{sum-cong, sum-swap, sum-const, sum-rest}
 use Rattle.theory.proofs.Lists.{length-tabulate, cell-tabulate, tabulate-cong, and-true, all-cell}
 use Rattle.theory.proofs.Verdicts.{Passes}
-use Rattle.theory_groups.specs.Groups.{inGroups, fits}
 use Rattle.theory_groups.proofs.Totals.{Once}
 
 -- every sector is in exactly one group, and no group has a bit at n or above
@@ -24,13 +23,13 @@ pub record Partition (n : ℕ) (groups : List ℕ) : Type 0 where
 pub partition : (t : Table) (groups : List ℕ) → Passes (partitioned t groups) → Partition (t .sectors) groups
 partition t groups p =
     let n = t .sectors in
-    let counts = tabulate n (inGroups groups) in
-    let both = and-true (all (eqb 1) counts) (all (fits n) groups) (p 0 (le-refl 1)) in
+    let counts = tabulate n (groupCount groups) in
+    let both = and-true (all (eqb 1) counts) (all (groupFits n) groups) (p 0 (le-refl 1)) in
     record {
       once = λ i h.
-          sym (cell-tabulate n (inGroups groups) i h)
-          ∙ sym (eqb-true 1 (cell counts i) (all-cell (eqb 1) counts (both .0) i (rw (length-tabulate n (inGroups groups)) h)));
-      below = λ k h. ltb-true (cell groups k) (2 ^ n) (and-true (ltb 0 (cell groups k)) (ltb (cell groups k) (2 ^ n)) (all-cell (fits n) groups (both .1) k h) .1);
+          sym (cell-tabulate n (groupCount groups) i h)
+          ∙ sym (eqb-true 1 (cell counts i) (all-cell (eqb 1) counts (both .0) i (rw (length-tabulate n (groupCount groups)) h)));
+      below = λ k h. ltb-true (cell groups k) (2 ^ n) (and-true (ltb 0 (cell groups k)) (ltb (cell groups k) (2 ^ n)) (all-cell (groupFits n) groups (both .1) k h) .1);
     }
 
 -- a word below 2 ^ n has its set positions below n

@@ -5,7 +5,7 @@ use Prim.Native.Nat.{ℕ, _+_, _*_, _≤_, _<_}
 use native.Mathlib.Nat.{mul-comm, mul-one, mul-zero, mul-add, mul-le-mul-left, le-trans}
 use lib.ListN.{length}
 use Rattle.model.specs.Numbers.{sum, cell, bit, columnSum, allCells}
-use Rattle.model.specs.Aggregation.{groupTotal}
+use Rattle.model.specs.Aggregation.{groupTotal, groupCount}
 use Rattle.theory.proofs.Bits.{bit-takes}
 use Rattle.theory.proofs.Sums.{sum-mono, sum-cong, sum-add, sum-scale, sum-swap, sum-const, sum-most}
 
@@ -40,7 +40,7 @@ module _ (n w : ℕ) where
 
 -- ---- every sector is in exactly one group
 abbrev pub Once : (n : ℕ) (groups : List ℕ) → Type 0
-Once n groups = (i : ℕ) → i < n → sum (length groups) (λ k. bit (cell groups k) i) ≡ 1
+Once n groups = (i : ℕ) → i < n → groupCount groups i ≡ 1
 
 module _ (n : ℕ) (groups : List ℕ) (once : Once n groups) where
   -- what a group has together, by its place

@@ -3,11 +3,10 @@ use mathlib.Core.Bool.{_&&_}
 use mathlib.Core.List.{List, [], _∷_}
 use mathlib.Core.Path.{_≡_, sym, _∙_}
 use borrow.Author.Tests.{not-true, not-false}
-use Rattle.model.specs.Table.{tableOf}
 use Rattle.model.specs.Checks.{Check, single, verdict}
-use Rattle.model.specs.Aggregation.{partitioned}
+use Rattle.model.specs.Aggregation.{isPartition}
 use Rattle.theory.proofs.Verdicts.{single-passed, single-failed}
-use Rattle.theory_groups.specs.Groups.{totalsWithin}
+use Rattle.theory_groups.specs.Groups.{decidingWithin}
 use Rattle.aggregate_checks.proofs.check_groups.Statement.{statement}
 use Rattle.aggregate_checks.proofs.check_groups.Tie as tie
 
@@ -16,16 +15,13 @@ entry q = q .before .before .before .before .before
 
 -- question 19
 abbrev last : tie.After-is-partition → List Check
-last q =
-    let a = entry q .args in
-    let g = a .groups .now in
-    single 19 (totalsWithin (a .n) g (a .final-demand .now) && totalsWithin (a .n) g (a .imports .now) && totalsWithin (a .n) g (a .production .now)) ∷ []
+last q = let a = entry q .args in single 19 (decidingWithin (a .n) (a .groups .now) (a .final-demand .now) (a .imports .now) (a .production .now)) ∷ []
 
 returns : tie.Need-returns
 returns c = sym (single-failed 18 (last (c .before)) [] (sym (c .before .is-partition .ensures) ∙ not-true _ (c .if1 .taken)))
 
 -- past question 18
-passed : (e : tie.Else1) → let a = entry (e .before) .args in verdict (partitioned (tableOf (a .n) [] []) (a .groups .now) ∷ last (e .before)) [] ≡ verdict (last (e .before)) []
+passed : (e : tie.Else1) → let a = entry (e .before) .args in verdict (single 18 (isPartition (a .n) (a .groups .now)) ∷ last (e .before)) [] ≡ verdict (last (e .before)) []
 passed e = single-passed 18 (last (e .before)) [] (sym (e .before .is-partition .ensures) ∙ not-false _ (e .if1 .left))
 
 returns-2 : tie.Need-returns-2

@@ -14,7 +14,7 @@ use Rattle.theory.proofs.Lists.{from-one}
 use Rattle.theory.proofs.Verdicts.{AllPass, answered-pass, answered-on, answered-end, all-pass-parts, asked-both}
 use Rattle.theory_tables.specs.Tables.{TableSizes}
 use Rattle.theory_tables.proofs.Tables.{table-sizes, table-amounts, balanced}
-use Rattle.theory_groups.specs.Groups.{totalsWithin}
+use Rattle.theory_groups.specs.Groups.{decidingWithin}
 use Rattle.theory_groups.proofs.Partitions.{partition}
 use Rattle.theory_groups.proofs.Limits.{limits-same}
 use Rattle.aggregate_checks.proofs.check_merging.Statement.{statement}
@@ -82,7 +82,7 @@ returns-3 c =
     let a = entry q .args in
     let t = table q in
     let g = groups q in
-    let three = totalsWithin (a .n) g (a .final-demand .now) && totalsWithin (a .n) g (a .imports .now) && totalsWithin (a .n) g (a .production .now) in
+    let three = decidingWithin (a .n) g (a .final-demand .now) (a .imports .now) (a .production .now) in
     let some = from-one (length g) (a .n) (passed p .1 .1 .0 0 (le-refl 1)) .0 in
     c .check-groups .ensures
     ∙ asked-both _≡_ (partitioned t g) (single 19 three ∷ []) (mergedWithin t g ∷ []) [] [] (λ _. refl)

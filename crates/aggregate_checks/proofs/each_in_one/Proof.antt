@@ -5,12 +5,12 @@ use native.Mathlib.Omega.{arith}
 use borrow.Author.Tests.{eq-eqb, ne-eqb}
 use lib.Dec.{eqb}
 use Rattle.theory.proofs.Lists.{All, all-none, all-more, made-passed, made-failed}
-use Rattle.theory_groups.specs.Groups.{inGroups}
+use Rattle.model.specs.Aggregation.{groupCount}
 use Rattle.aggregate_checks.proofs.each_in_one.Statement.{statement}
 use Rattle.aggregate_checks.proofs.each_in_one.Tie as tie
 
 abbrev Inv-loop : tie.InvT-loop
-Inv-loop n groups i₀ i = (i ≤ n) × All (λ k. eqb 1 (inGroups groups k)) i
+Inv-loop n groups i₀ i = (i ≤ n) × All (λ k. eqb 1 (groupCount groups k)) i
 
 abbrev μ-loop : tie.MeasureT-loop
 μ-loop n groups i₀ i = n - i
@@ -24,20 +24,20 @@ returns c =
     let q = k .before in
     let p = q .before in
     let a = entry p .args in
-    sym (made-failed (eqb 1) (a .n) (inGroups (a .groups .now)) (p .loop .i) (q .loop-test .taken) (ne-eqb 1 (inGroups (a .groups .now) (p .loop .i)) (λ e. omega (arith, e, c .if1 .taken, k .count-groups .ensures))))
+    sym (made-failed (eqb 1) (a .n) (groupCount (a .groups .now)) (p .loop .i) (q .loop-test .taken) (ne-eqb 1 (groupCount (a .groups .now) (p .loop .i)) (λ e. omega (arith, e, c .if1 .taken, k .count-groups .ensures))))
 
 loop-again : tie.Need-loop-again Inv-loop μ-loop
 loop-again c =
     let k = c .before in
     let p = k .before .before in
     let a = entry p .args in
-    (omega arith, all-more (λ i. eqb 1 (inGroups (a .groups .now) i)) (p .loop .i) (p .loop .inv .1) (eq-eqb 1 (inGroups (a .groups .now) (p .loop .i)) (omega (arith, c .if1 .left, k .count-groups .ensures))))
+    (omega arith, all-more (λ i. eqb 1 (groupCount (a .groups .now) i)) (p .loop .i) (p .loop .inv .1) (eq-eqb 1 (groupCount (a .groups .now) (p .loop .i)) (omega (arith, c .if1 .left, k .count-groups .ensures))))
 
 returns-2 : tie.Need-returns-2 Inv-loop μ-loop
 returns-2 c =
     let p = c .before in
     let a = entry p .args in
-    sym (made-passed (eqb 1) (a .n) (inGroups (a .groups .now)) (λ i h. p .loop .inv .1 i (omega (arith, c .loop-test .left))))
+    sym (made-passed (eqb 1) (a .n) (groupCount (a .groups .now)) (λ i h. p .loop .inv .1 i (omega (arith, c .loop-test .left))))
 
 pub each-in-one-spec : {M : Type 1} → statement M
 each-in-one-spec =

@@ -5,13 +5,13 @@ use native.Mathlib.Omega.{arith}
 use lib.ListN.{length}
 use Rattle.model.specs.Numbers.{cell}
 use Rattle.theory.proofs.Lists.{All, all-none, all-more, all-passed, all-failed}
-use Rattle.theory_groups.specs.Groups.{fits}
+use Rattle.model.specs.Aggregation.{groupFits}
 use Rattle.aggregate_checks.proofs.WordLaws.{empty, above, below}
 use Rattle.aggregate_checks.proofs.words_fit.Statement.{statement}
 use Rattle.aggregate_checks.proofs.words_fit.Tie as tie
 
 abbrev Inv-loop : tie.InvT-loop
-Inv-loop n groups k₀ end k = (k ≤ length groups) × All (λ j. fits n (cell groups j)) k
+Inv-loop n groups k₀ end k = (k ≤ length groups) × All (λ j. groupFits n (cell groups j)) k
 
 abbrev μ-loop : tie.MeasureT-loop
 μ-loop n groups k₀ end k = length groups - k
@@ -24,27 +24,27 @@ returns c =
     let q = c .before .before in
     let p = q .before in
     let a = p .before .args in
-    sym (all-failed (fits (a .n)) (a .groups .now) (p .loop .k) (q .loop-test .taken) (empty (a .n) (word p) (omega (arith, c .if1 .taken))))
+    sym (all-failed (groupFits (a .n)) (a .groups .now) (p .loop .k) (q .loop-test .taken) (empty (a .n) (word p) (omega (arith, c .if1 .taken))))
 
 returns-2 : tie.Need-returns-2 Inv-loop μ-loop
 returns-2 c =
     let q = c .before .before .before .before in
     let p = q .before in
     let a = p .before .args in
-    sym (all-failed (fits (a .n)) (a .groups .now) (p .loop .k) (q .loop-test .taken) (above (a .n) (word p) (λ e. c .if2 .taken (omega (arith, e)))))
+    sym (all-failed (groupFits (a .n)) (a .groups .now) (p .loop .k) (q .loop-test .taken) (above (a .n) (word p) (λ e. c .if2 .taken (omega (arith, e)))))
 
 loop-again : tie.Need-loop-again Inv-loop μ-loop
 loop-again c =
     let e = c .before .before in
     let p = e .before .before .before in
     let a = p .before .args in
-    (omega arith, all-more (λ j. fits (a .n) (cell (a .groups .now) j)) (p .loop .k) (p .loop .inv .1) (below (a .n) (word p) (omega (arith, e .if1 .left)) (omega (arith, c .if2 .left))))
+    (omega arith, all-more (λ j. groupFits (a .n) (cell (a .groups .now) j)) (p .loop .k) (p .loop .inv .1) (below (a .n) (word p) (omega (arith, e .if1 .left)) (omega (arith, c .if2 .left))))
 
 returns-3 : tie.Need-returns-3 Inv-loop μ-loop
 returns-3 c =
     let p = c .before in
     let a = p .before .args in
-    sym (all-passed (fits (a .n)) (a .groups .now) (λ k h. p .loop .inv .1 k (omega (arith, c .loop-test .left))))
+    sym (all-passed (groupFits (a .n)) (a .groups .now) (λ k h. p .loop .inv .1 k (omega (arith, c .loop-test .left))))
 
 pub words-fit-spec : {M : Type 1} → statement M
 words-fit-spec =
