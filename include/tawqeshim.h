@@ -5,8 +5,9 @@
  * Link with libtawqeshim.so or with libtawqeshim.a, which scripts/shared-library builds. Both are for x86-64 Linux.
  *
  * A table has n sectors, 1 to 40, counted from 0. Matrices have n * n cells, row by row: the cell of row i and column j is cell i * n +
- * j; those of a merged table of g sectors likewise g * g. Amounts are whole numbers of one money unit. Shares and coefficients are whole millionths: "one" is 1,000,000. Input coefficients,
- * value shares and import shares are to the nearest millionth, halves upward; all other quotients are rounded down.
+ * j. Those of a merged table of g sectors have g * g likewise. Amounts are whole numbers of one money unit. Shares and coefficients are
+ * whole millionths: "one" is 1,000,000. Input coefficients, value shares and import shares are to the nearest millionth, halves upward;
+ * all other quotients are rounded down.
  *
  * Arrays. Each array is a pointer, then its length in cells (of `file` and a page, in bytes). Any lengths, cells, n and budget may be
  * handed over; a wrong length is refused with number 2.

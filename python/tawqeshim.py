@@ -459,7 +459,7 @@ def _side(n: Optional[int], sheet: ctypes.Array) -> int:
 
 
 def _new_column(n: int) -> ctypes.Array:
-    """An output column. Its length where n is above 40 does not matter: question 1 is asked first."""
+    """An output column. Its length where n is above 40 does not matter: question 1 is asked first, of groups question 2."""
     return (ctypes.c_uint64 * min(n, _SECTORS))()
 
 

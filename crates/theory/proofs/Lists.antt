@@ -165,6 +165,7 @@ pub each-equal : (n : ℕ) (xs : List ℕ) → all (eqb n) xs ≡ true → Each 
 each-equal n [] e = tt
 each-equal n (x ∷ xs) e = let p = all-equal n x xs e in (p .0, each-equal n xs (p .1))
 
+-- and the other way round
 pub equal-each : (n : ℕ) (xs : List ℕ) → Each n xs → all (eqb n) xs ≡ true
 equal-each n [] e = refl
 equal-each n (x ∷ xs) (e, es) = rw (eq-eqb n x (sym e)) (equal-each n xs es)

@@ -74,7 +74,7 @@ module _ (n : ℕ) (x f e m v p a groups : List ℕ) where
           small = table-amounts u (all-pass-parts (tableAmounts u) (exportsWithin u ∷ []) (accepted-all asked [] (b .1 .1 .0 0 (le-refl 1))) .0);
         }
 
-    -- so does a call whose answer is that it was accepted
+    -- what a call knows whose answer is that it was accepted
     pub accepted-known : {r : Report} → r ≡ aggregateReport t groups matrices lent → r .accepted ≡ true → Mergeable matrices lent
     unfolding aggregateReport
     accepted-known answer ok =
@@ -97,6 +97,7 @@ module _ (n : ℕ) (x f e m v p a groups : List ℕ) where
             slices = is-slices;
           }
 
+      -- Theorem, for the reader: so it is accepted by these questions, and sheets from it are refused by 7 alone
       merged-passes : verdict (tableChecks u [] []) [] ≡ accepts []
       merged-passes = all-accepted (tableChecks u [] []) [] (table-passes u [] [] (merged-accepted [] [] tt tt))
 

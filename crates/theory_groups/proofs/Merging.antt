@@ -48,7 +48,7 @@ module _ (t : Table) (groups : List ℕ) where
   merged-cell = merged-in (t .columns)
 
   module _ (once : Once (t .sectors) groups) where
-    -- the totals are kept
+    -- Theorem, for the reader: the totals of x and of every column are kept
     pub same-totals : SameTotals t u
     same-totals = record {
       flows = sum-cong g (λ l h. sum-cong g (λ k j. merged-flow k l j h)) ∙ flows-kept (t .sectors) groups once (flow t);
@@ -65,6 +65,7 @@ module _ (t : Table) (groups : List ℕ) where
     merged-abroad : (k : ℕ) → k < g → adjustedExports u k ≡ grouped (adjustedExports t) k
     merged-abroad k h = ap₂ _+_ (merged-cell 1 k h) (merged-cell 5 k h) ∙ sym (total-add (t .sectors) (cell groups k) (cell (exports t)) (cell (adjustment t)))
 
+    -- Theorems, for the reader: a table that balances still does when it is merged, and imports are still covered by need
     module _ (b : Balanced t) where
       pub merged-columns : (l : ℕ) → l < g → sum g (transposed (flow u) l) + cell (valueAdded u) l ≡ cell (production u) l
       merged-columns l h =
