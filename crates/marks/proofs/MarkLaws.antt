@@ -1,21 +1,21 @@
 -- The marks tell which cells were named: a mark sets its own bit and no other. Assumes nothing.
 use mathlib.Core.Bool.{Bool, false, _&&_, _||_}
 use mathlib.Core.List.{List}
-use mathlib.Core.Path.{_≡_, refl, sym, ap, ap₂, _∙_, subst}
-use Prim.Native.Nat.{ℕ, suc, _+_, _-_, _*_, _/_, _%_, _^_, _<_, max}
-use native.Mathlib.Nat.{zero-div, div-eq-of-lt, max-zero, one-mul}
-use native.Mathlib.Decide.{ℕ-discrete, decLt}
+use mathlib.Core.Path.{_≡_, refl, sym, ap, ap₂, _∙_}
+use Prim.Native.Nat.{ℕ, _*_, _/_, _%_, _^_, _<_, max}
+use native.Mathlib.Nat.{zero-div, max-zero}
+use native.Mathlib.Decide.{ℕ-discrete}
 use native.Mathlib.Omega.{arith}
 use borrow.Author.Tests.{eq-eqb, ne-eqb}
-use lib.Bits.{bitOr, or-shr, or-mod, shifted-even}
+use lib.Bits.{bitOr, or-shr, or-mod}
 use lib.Dec.{eqb, lit<}
 use lib.ListN.{length, set, replicate}
-use lib.Pow.{pow-lt, pow-add, shl-shr, shl-exact}
+use lib.Pow.{shl-exact}
 use lib.Seq.{getD-set-same, getD-set-other}
 use Rattle.model.specs.Numbers.{cell, bit, wordPositions}
 use Rattle.model.specs.File.{marked}
 use Rattle.theory.proofs.Lists.{cell-zeros}
-use Rattle.theory.proofs.Bits.{bit-lt, each-bit}
+use Rattle.theory.proofs.Bits.{bit-lt, each-bit, bit-same, bit-other}
 
 -- of two bits, `or` is the larger
 or-bits : (r s : ℕ) → r < 2 → s < 2 → bitOr r s ≡ max r s
@@ -24,30 +24,6 @@ or-bits r s a b =
 
 bit-or : (a b k : ℕ) → bit (bitOr a b) k ≡ max (bit a k) (bit b k)
 bit-or a b k = ap (λ (x : ℕ). x % 2) (or-shr a b k) ∙ or-mod (a / 2 ^ k) (b / 2 ^ k) 1 ∙ or-bits (bit a k) (bit b k) (bit-lt a k) (bit-lt b k)
-
--- the bits of 2 ^ p
-bit-same : (p : ℕ) → bit (1 * 2 ^ p) p ≡ 1
-bit-same p = ap (λ (x : ℕ). x % 2) (shl-shr 1 p)
-
-bit-above : (p k : ℕ) → p < k → bit (1 * 2 ^ p) k ≡ 0
-bit-above p k h = ap (λ (x : ℕ). x % 2) (div-eq-of-lt (subst (λ (x : ℕ). x < 2 ^ k) (sym (one-mul (2 ^ p))) (pow-lt h)))
-
-bit-below : (p k : ℕ) → k < p → bit (1 * 2 ^ p) k ≡ 0
-bit-below p k h =
-    let d = p - suc k in
-    let e : p ≡ suc d + k = omega arith in
-    ap (λ (x : ℕ). bit (1 * 2 ^ x) k) e
-    ∙ ap (λ (x : ℕ). bit x k) (one-mul (2 ^ (suc d + k)) ∙ pow-add 2 (suc d) k)
-    ∙ ap (λ (x : ℕ). x % 2) (shl-shr (2 ^ suc d) k)
-    ∙ ap (λ (x : ℕ). x % 2) (sym (one-mul (2 ^ suc d))) ∙ shifted-even 1 d
-
-bit-other : (p k : ℕ) → (p ≡ k → ⊥) → bit (1 * 2 ^ p) k ≡ 0
-bit-other p k h = go (decLt p k) (decLt k p)
-  where
-    go : Dec (p < k) → Dec (k < p) → bit (1 * 2 ^ p) k ≡ 0
-    go (yes a) b = bit-above p k a
-    go (no a) (yes b) = bit-below p k b
-    go (no a) (no b) = absurd (h (omega arith))
 
 -- marks with the bit of a cell set
 module _ (marks : List ℕ) (l p : ℕ) (hl : l < length marks) (hp : p < wordPositions) where

@@ -2,5 +2,6 @@
 pub mod Totals
 pub mod Partitions
 pub mod Merging
+pub mod Singles
 pub mod Limits
 pub mod Aggregated

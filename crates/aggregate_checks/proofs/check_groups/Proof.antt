@@ -1,5 +1,4 @@
 -- `aggregate_checks::check_groups` meets its contract: each way out has its law. Assumes nothing.
-use mathlib.Core.Bool.{_&&_}
 use mathlib.Core.List.{List, [], _∷_}
 use mathlib.Core.Path.{_≡_, sym, _∙_}
 use borrow.Author.Tests.{not-true, not-false}
