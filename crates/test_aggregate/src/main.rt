@@ -479,23 +479,15 @@ fn limits() {
     imported(b"imports over the limit", 400000001);
 }
 
-// One sector without flows, in no group.
-fn alone(name: &[u8], columns: [u64; 6]) {
-    table(name, &[0], &columns, &[0]);
-}
-
+// Question 2 comes before 18, and so does 6.
 fn earlier_questions() {
-    alone(
-        b"an amount over, and no sector",
-        [1000000001, 0, 0, 0, 0, 0],
-    );
-    alone(b"exports over, and no sector", [0, 1000000000, 0, 0, 0, 1]);
-    alone(b"imports over need, and no sector", [0, 10, 5, 5, 5, 0]);
-}
-
-fn lengths() {
     table(b"more groups than sectors", &[0], &[0; 6], &[1, 0]);
-    table(b"no sectors", &[], &[], &[1]);
+    table(
+        b"imports over need, and no sector",
+        &[0],
+        &[0, 10, 5, 5, 5, 0],
+        &[0],
+    );
 }
 
 fn main() {
@@ -503,5 +495,4 @@ fn main() {
     no_partitions();
     limits();
     earlier_questions();
-    lengths();
 }
