@@ -273,7 +273,7 @@ threeSectors =
           ∷ [];
     }
 
--- nothing is left of a call that is lent slices for g sectors
+-- what a refused call leaves in slices for g sectors
 abbrev nothing : ℕ → List (List ℕ)
 nothing g = tabulateCells 8 (λ c. replicate (cond (eqb c 0) (g * g) g) 0)
 

@@ -8,7 +8,7 @@ use Rattle.model.specs.Numbers.{Cells, Sheet, sum, all, tabulate, cell, 
 use Rattle.model.specs.Table.{Table, tableOf, flow}
 use Rattle.model.specs.Checks.{Report, Check, verdict, single, size, lengths, tableAmounts, exportsWithin, balanceChecks}
 
--- what the sectors of a group have together: f added up over the sectors below n that are in it
+-- "added": what the sectors of a group have together, f added up over the sectors below n that are in it
 unfoldable pub groupTotal : (n group : ℕ) (f : ℕ → ℕ) → ℕ
 groupTotal n group f = sum n (λ i. bit group i * f i)
 
@@ -33,6 +33,7 @@ module _ (t : Table) (groups : Cells) where
   abbrev pub mergedFlow : Sheet
   mergedFlow k l = groupTotal (t .sectors) (cell groups k) (λ i. groupTotal (t .sectors) (cell groups l) (flow t i))
 
+  -- and a column: what the sectors of each group have of it
   abbrev pub mergedColumn : Cells → Cells
   mergedColumn s = tabulate (length groups) (λ k. groupTotal (t .sectors) (cell groups k) (cell s))
 
@@ -58,5 +59,6 @@ module _ (t : Table) (groups : Cells) where
       size (t .sectors) ∷ lengths (t .sectors) (length (t .flows) ∷ []) (map length (t .columns))
       ∷ groupLengths matrices lent ++ tableAmounts t ++ balanceChecks t ++ (partitioned ∷ mergedWithin ∷ [])
 
+  -- and its answer
   unfoldable pub aggregateReport : (matrices lent : List ℕ) → Report
   aggregateReport matrices lent = verdict (aggregateChecks matrices lent) []

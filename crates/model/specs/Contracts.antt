@@ -49,6 +49,7 @@ pub record Derived (t : Table) (a₀ v₀ m₀ d₀ f₀ : Cells) (r : Report) (
 -- A table t with its sectors merged by groups (document 02, ticket 7). What is lent for the merged table is u₀ before the call and u after it
 pub record Aggregated (t : Table) (groups : Cells) (u₀ : Table) (sizes₀ : Cells) (r : Report) (u : Table) (sizes : Cells) : Type 0 where
   pub answer : r ≡ aggregateReport t groups (length (u₀ .flows) ∷ []) (map length (u₀ .columns) ++ (length sizes₀ ∷ []))
+  -- "the merged x", and "each merged column": F, E, M, V, X and G
   pub flows : u .flows ≡ output r (length (u₀ .flows)) (mergedTable t groups .flows)
   pub columns : (c : ℕ) → column u c ≡ output r (length (column u₀ c)) (column (mergedTable t groups) c)
   -- "how many sectors each group took in"
@@ -59,7 +60,7 @@ pub record Aggregated (t : Table) (groups : Cells) (u₀ : Table) (sizes₀ : Ce
   pub seventh : r .accepted ≡ true
       → let g = u .sectors in
       coefficientsReport u (g * g ∷ g * g ∷ []) (g ∷ g ∷ g ∷ []) ≡ verdict (columnSums g (at g (domesticCoefficients u)) ∷ []) []
-  -- "the totals of x, F, E, M, V, X and G equal those before"
+  -- "the totals of x, F, E, M, V, X and G equal those before, as sums over the original cells"
   pub totals : r .accepted ≡ true → SameTotals t u
   -- the groups took in every sector
   pub every : r .accepted ≡ true → sum (length groups) (cell sizes) ≡ t .sectors

@@ -33,7 +33,7 @@ partition t groups p =
     }
 
 -- a word below 2 ^ n has its set positions below n
-pub set-below : (n w : ℕ) → n ≤ wordPositions → w < 2 ^ n → setPositions w ≡ sum n (bit w)
+set-below : (n w : ℕ) → n ≤ wordPositions → w < 2 ^ n → setPositions w ≡ sum n (bit w)
 unfolding setPositions
 set-below n w h l = sum-rest n wordPositions (bit w) h (λ i g. ap (λ (a : ℕ). a % 2) (div-eq-of-lt (lt-of-lt-of-le l (pow-mono g))))
 

@@ -24,7 +24,7 @@ module _ (n w : ℕ) where
   total-add f h = sum-cong n (λ i l. mul-add (bit w i) (f i) (h i)) ∙ sum-add n (λ i. bit w i * f i) (λ i. bit w i * h i)
 
   -- sums of what they have together, and what they have together of sums
-  pub total-sum : (m : ℕ) (f : ℕ → ℕ → ℕ) → sum m (λ l. groupTotal n w (λ i. f i l)) ≡ groupTotal n w (λ i. sum m (f i))
+  total-sum : (m : ℕ) (f : ℕ → ℕ → ℕ) → sum m (λ l. groupTotal n w (λ i. f i l)) ≡ groupTotal n w (λ i. sum m (f i))
   unfolding groupTotal
   total-sum m f = sum-swap m n (λ l i. bit w i * f i l) ∙ sum-cong n (λ i h. sum-scale m (bit w i) (f i))
 

@@ -1,1 +1,1 @@
-// Laws and theorems of what a scheme adds: they stand in proofs/, and there is no code here.
+// Laws and theorems of groups of sectors and of merged tables: they stand in proofs/, and there is no code here.

@@ -40,7 +40,7 @@ returns c =
     let q = c .before .before .before .before .before .before .before .before .before .before .before .before .before .before .before .before .before .before .before .before .before .before .before .before .before .before .before .before .before .before .before .before in
     let a = entry q .args in
     let r = report (q .check-called .result) in
-    aggregated (a .n) (a .x .now) (a .final-demand .now) (a .exports .now) (a .imports .now) (a .value-added .now) (a .production .now) (a .adjustment .now) (a .groups .now) (q .check-called .ensures)
+    aggregated (a .n) (a .x .now) (a .final-demand .now) (a .exports .now) (a .imports .now) (a .value-added .now) (a .production .now) (a .adjustment .now) (a .groups .now) {x₀ = a .merged-x .now} {f₀ = a .merged-final-demand .now} {e₀ = a .merged-exports .now} {m₀ = a .merged-imports .now} {v₀ = a .merged-value-added .now} {p₀ = a .merged-production .now} {a₀ = a .merged-adjustment .now} {s₀ = a .sizes .now} (q .check-called .ensures)
     (c .before .before .before .before .before .before .before .before .before .before .before .before .before .before .before .before .before .before .before .before .before .before .before .before .before .before .before .before .before .before .leave-flows .ensures)
     (c .before .before .before .before .before .before .before .before .before .before .before .before .before .before .before .before .before .before .before .before .before .before .before .before .before .before .leave-column .ensures)
     (c .before .before .before .before .before .before .before .before .before .before .before .before .before .before .before .before .before .before .before .before .before .before .leave-column2 .ensures)
