@@ -40,10 +40,10 @@ pages =
     -- document 02, ticket 3: the worked table with an adjustment item; and exports of 1,000,000,000 with an item of 1
     ∷ fileOf 2 (adjusted entries) ⊳ bytes "sector demand production value imports\n1 650 999 599 299\n2 1325 1999 999 449\nrounds 8\n"
     ∷ fileOf 2 (naming 46 1 1 ∷ naming 41 1 1_000_000_000 ∷ []) ⊳ bytes "refused 16 1\n"
-    -- document 02, ticket 6: a is 950,001 to the nearest millionth; and m is 105, by which d is 950,000
+    -- document 02, ticket 6: a is 950,001 to the nearest millionth; and m is 9,158, by which d is 950,000
     ∷ fileOf 1 (naming 0 0 88161 ∷ naming 40 0 4640 ∷ naming 43 0 4640 ∷ naming 44 0 92801 ∷ []) ⊳ bytes "refused 7 0\n"
-    ∷ fileOf 1 (naming 0 0 9501000 ∷ naming 40 0 500047 ∷ naming 42 0 1047 ∷ naming 43 0 499000 ∷ naming 44 0 10000000 ∷ [])
-    ⊳ bytes "sector demand production value imports\n1 499994 9999861 498993 1050\nrounds 268\n"
+    ∷ fileOf 1 (naming 0 0 535 ∷ naming 40 0 11 ∷ naming 41 0 17 ∷ naming 42 0 5 ∷ naming 43 0 23 ∷ naming 44 0 558 ∷ [])
+    ⊳ bytes "sector demand production value imports\n1 27 521 21 4\nrounds 76\n"
     -- a table of one sector and zeros
     ∷ fileOf 1 [] ⊳ bytes "sector demand production value imports\n1 0 0 0 0\nrounds 1\n"
     ∷ []
