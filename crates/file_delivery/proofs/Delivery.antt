@@ -15,7 +15,7 @@ use Rattle.model.specs.File.{Reading, reading, fits, called, flowsRead, columnR
 use Rattle.theory.specs.Slices.{Each}
 use Rattle.theory.proofs.Lists.{and-true, each-equal}
 use Rattle.file_walk.specs.Steps.{Held}
-use Rattle.file_reader.specs.Reader.{Put}
+use Rattle.file_delivery.specs.Reader.{Put}
 
 -- the slices have the lengths that are asked for
 abbrev pub Fit : ℕ → List ℕ → Type 0

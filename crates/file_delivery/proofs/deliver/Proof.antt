@@ -1,11 +1,11 @@
--- `file_reader::deliver` meets its contract: each slice takes its part. Assumes nothing.
+-- `file_delivery::deliver` meets its contract: each slice takes its part. Assumes nothing.
 use mathlib.Core.List.{[], _∷_}
 use native.Mathlib.Omega.{arith}
 use borrow.Author.Needs.{needs}
 use lib.Dec.{lit<}
-use Rattle.file_reader.proofs.Delivery.{fit-or-not, either, put-flows, put-column}
-use Rattle.file_reader.proofs.deliver.Statement.{statement}
-use Rattle.file_reader.proofs.deliver.Tie as tie
+use Rattle.file_delivery.proofs.Delivery.{fit-or-not, either, put-flows, put-column}
+use Rattle.file_delivery.proofs.deliver.Statement.{statement}
+use Rattle.file_delivery.proofs.deliver.Tie as tie
 
 -- from the fifth part to the first, and to the start
 abbrev first : tie.After-put-part5 → tie.After-put-part
