@@ -1,17 +1,32 @@
 -- The bytes of a record, and of the cells of a word from a position on. Assumes nothing.
 use mathlib.Core.Bool.{cond}
 use mathlib.Core.List.{List, [], _∷_, _++_}
-use mathlib.Core.Path.{_≡_, refl, ap, _∙_}
-use Prim.Native.Nat.{ℕ, _+_, _-_, _≤_, _<_}
+use mathlib.Core.Path.{_≡_, refl, sym, ap, _∙_}
+use Prim.Native.Nat.{ℕ, suc, _+_, _-_, _≤_, _<_}
+use native.Mathlib.Nat.{add-zero, add-suc, suc-add}
+use native.Mathlib.Omega.{arith}
 use borrow.Author.Tests.{lt-ltb, le-ltb, eq-eqb, ne-eqb}
 use lib.Dec.{eqb}
-use lib.ListN.{length, drop, drop-of-length-le}
+use lib.ListN.{length, set, drop, drop-of-length-le}
+use lib.Seq.{sets, set-comm}
 use Rattle.model.specs.Numbers.{cell}
 use Rattle.model.specs.Table.{sectorLimit}
 use Rattle.model.specs.File.{Entry, amountBytes, columnKinds, encode, encodeAll}
 use Rattle.model.specs.Writer.{wordEntries}
 use Rattle.theory.proofs.Stores.{drop-first}
 use Rattle.theory_files.proofs.Encoding.{made, encode-flow, encode-column}
+
+-- a text whose end was written first
+late : (x : ℕ) (b l : List ℕ) (i k : ℕ) → i < k → set (sets l k b) i x ≡ sets (set l i x) k b
+late x [] l i k h = refl
+late x (y ∷ b) l i k h = late x b (set l k y) i (suc k) (omega arith) ∙ ap (λ (m : List ℕ). sets m (suc k) b) (set-comm l k i y x (λ e. omega (arith, e)))
+
+pub sets-back : (a b l : List ℕ) (i : ℕ) → sets (sets l (i + length a) b) i a ≡ sets l i (a ++ b)
+sets-back [] b l i = ap (λ (k : ℕ). sets l k b) (add-zero i)
+sets-back (x ∷ a) b l i =
+    ap (λ (m : List ℕ). sets m (suc i) a) (late x b l i (i + length (x ∷ a)) (omega arith))
+    ∙ ap (λ (k : ℕ). sets (sets (set l i x) k b) (suc i) a) (add-suc i (length a) ∙ sym (suc-add i (length a)))
+    ∙ sets-back a b (set l i x) (suc i)
 
 -- a record begins with its kind and its sectors, and ends with its amount
 module _ (word position amount : ℕ) where

@@ -37,7 +37,7 @@ fn column_kind(column: usize) -> u8
     kinds[column]
 }
 
-// The record of a cell, by its word and its position.
+// The record of a cell, by its word and its position. The amount is stored first: then the compiler joins its four bytes into one store.
 fn put_record(word: usize, position: usize, amount: u64, at: usize, file: &mut [u8]) -> usize
     requires { ⌜ (word < wordLimit) × (position < sectorLimit) × (amount ≤ amountLimit) ⌝ }
     requires { ⌜ at + length (encode (record { word = word; position = position; amount = amount })) ≤ length (now file) ⌝ }
@@ -46,12 +46,14 @@ fn put_record(word: usize, position: usize, amount: u64, at: usize, file: &mut [
 {
     if word < SECTORS {
         let flow = [2u8, (word + 1) as u8, (position + 1) as u8];
-        let next = put_bytes(&flow, at, file);
-        return put_amount(amount, next, file);
+        let next = put_amount(amount, at + 3, file);
+        put_bytes(&flow, at, file);
+        return next;
     }
     let cell = [column_kind(word - SECTORS), (position + 1) as u8];
-    let next = put_bytes(&cell, at, file);
-    put_amount(amount, next, file)
+    let next = put_amount(amount, at + 2, file);
+    put_bytes(&cell, at, file);
+    next
 }
 
 // The cells of a word, a row of x or a column, zeros left out.
