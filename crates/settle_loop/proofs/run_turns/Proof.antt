@@ -1,6 +1,7 @@
 -- `settle_loop::run_turns` meets its contract: out has the amounts after `done` rounds, each of which changed a sector. Assumes nothing.
 use mathlib.Core.Path.{_≡_, refl, sym, _∙_, ap, subst, subst⁻¹}
-use mathlib.Core.Bool.{true, false≢true}
+use mathlib.Core.Bool.{Bool, true, false≢true}
+use mathlib.Core.List.{List}
 use Prim.Native.Nat.{ℕ, _+_, _≤_, _<_, _-_}
 use native.Mathlib.Nat.{lt-of-le-of-lt}
 use native.Mathlib.Omega.{arith}
@@ -17,10 +18,20 @@ use Rattle.theory_rounds.proofs.Answers.{nine-passed, nine-failed}
 use Rattle.settle_loop.proofs.run_turns.Statement.{statement}
 use Rattle.settle_loop.proofs.run_turns.Tie as tie
 
+-- what holds before each turn
+record Turned (n : ℕ) (d start : List ℕ) (budget : ℕ) (out₀ rises₀ sums₀ out rises sums : List ℕ) (narrow : Bool) (done : ℕ) : Type 0 where
+  within : done ≤ budget
+  outs : length out ≡ length out₀
+  raised : length rises ≡ length rises₀
+  summed : length sums ≡ length sums₀
+  amounts : out ≡ rounds n (at n d) start done
+  changed : All (changes n (at n d) start) (done + 1)
+  carried : Carried n d rises sums out
+  slim : narrow ≡ true → Narrow rises
+
 abbrev Inv-loop : tie.InvT-loop
 Inv-loop n d start budget out₀ rises₀ sums₀ narrow₀ done₀ out rises sums narrow done =
-    (done ≤ budget) × (length out ≡ length out₀) × (length rises ≡ length rises₀) × (length sums ≡ length sums₀)
-    × (out ≡ rounds n (at n d) start done) × All (changes n (at n d) start) (done + 1) × Carried n d rises sums out × (narrow ≡ true → Narrow rises)
+    Turned n d start budget out₀ rises₀ sums₀ out rises sums narrow done
 
 abbrev μ-loop : tie.MeasureT-loop
 μ-loop n d start budget out₀ rises₀ sums₀ narrow₀ done₀ out rises sums narrow done = budget - done
@@ -44,22 +55,23 @@ settles :
     Settles (entry p .args .n) (coefficients p) (entry p .args .start .now) (p .loop .done + 1) (after c .turn .last .1 .1 .1 .1 .0)
 settles c =
     let p = head (after c) in
-    turn-settles (entry p .args .n) (coefficients p) (entry p .args .start .now) (p .loop .done) (p .loop .out) (p .loop .inv .4) (p .loop .inv .5)
+    turn-settles (entry p .args .n) (coefficients p) (entry p .args .start .now) (p .loop .done) (p .loop .out) (p .loop .inv .amounts) (p .loop .inv .changed)
     (after c .turn .ensures .1 .1 .0) (sym (eq-eqb _ 0 (c .if1 .taken)) ∙ after c .turn .ensures .0)
 
 loop-holds : tie.Need-loop-holds Inv-loop μ-loop
 unfolding rounds
 loop-holds c =
-    let s = c .before .before .before .before .before in (
-      omega arith,
-      refl,
-      refl,
-      refl,
-      s .pre .1,
-      none-yet _ _ _,
-      s .pre .3,
-      λ t. subst⁻¹ Narrow (s .pre .2) (λ k h. omega (arith, s .pre .0 .small k (subst (λ (x : ℕ). k < x) (s .pre .0 .sectors) h))),
-    )
+    let s = c .before .before .before .before .before in
+    record {
+      within = omega arith;
+      outs = refl;
+      raised = refl;
+      summed = refl;
+      amounts = s .pre .1;
+      changed = none-yet _ _ _;
+      carried = s .pre .3;
+      slim = λ t. subst⁻¹ Narrow (s .pre .2) (λ k h. omega (arith, s .pre .0 .small k (subst (λ (x : ℕ). k < x) (s .pre .0 .sectors) h)));
+    }
 
 -- the rises and the outputs of a turn have a cell a sector
 sectors :
@@ -68,7 +80,7 @@ sectors :
     (length (p .loop .out) ≡ n) × (length (p .loop .rises) ≡ n)
 sectors p =
     let s = entry p in
-    (p .loop .inv .1 ∙ ap length (s .pre .1) ∙ s .pre .0 .sectors, p .loop .inv .2 ∙ ap length (s .pre .2) ∙ s .pre .0 .sectors)
+    (p .loop .inv .outs ∙ ap length (s .pre .1) ∙ s .pre .0 .sectors, p .loop .inv .raised ∙ ap length (s .pre .2) ∙ s .pre .0 .sectors)
 
 turn-requires : tie.Need-turn-requires Inv-loop μ-loop
 turn-requires c κs =
@@ -78,10 +90,10 @@ turn-requires c κs =
     let a = s .args in (
       (s .pre .0 .cells, s .pre .0 .sectors, sectors p .0, sectors p .1),
       (
-        (s .pre .0 .narrow, l .inv .7, l .inv .6),
+        (s .pre .0 .narrow, l .inv .slim, l .inv .carried),
         (
           s .pre .0 .small,
-          (rw (l .inv .4) (s .pre .0 .fits (l .done)), rising-from (a .n) (coefficients p) (a .start .now) (l .done) (l .out) (l .inv .4)),
+          (rw (l .inv .amounts) (s .pre .0 .fits (l .done)), rising-from (a .n) (coefficients p) (a .start .now) (l .done) (l .out) (l .inv .amounts)),
         ),
       ),
     )
@@ -95,7 +107,7 @@ lengths :
 lengths q =
     let k = q .turn .kept .1 .1 .1 .1 in
     let l = head q .loop in
-    (k .0 ∙ l .inv .1, k .1 .0 ∙ l .inv .2, k .1 .1 .0 ∙ l .inv .3)
+    (k .0 ∙ l .inv .outs, k .1 .0 ∙ l .inv .raised, k .1 .1 .0 ∙ l .inv .summed)
 
 returns : tie.Need-returns Inv-loop μ-loop
 returns c =
@@ -108,22 +120,23 @@ loop-again c =
     let q = c .before .before .before .before .before .before .before in
     let p = head q in
     let l = p .loop in
-    let a = entry p .args in (
-      omega arith,
-      lengths q .0,
-      lengths q .1,
-      lengths q .2,
-      turn-amounts (a .n) (coefficients p) (a .start .now) (l .done) (l .out) (l .inv .4) (l .inv .5) (q .turn .ensures .1 .1 .0),
-      turn-more (a .n) (coefficients p) (a .start .now) (l .done) (l .out) (l .inv .4) (l .inv .5) (sym (ne-eqb _ 0 (c .if1 .left)) ∙ q .turn .ensures .0),
-      q .turn .ensures .1 .1 .1,
-      λ t k h. lt-of-le-of-lt (q .turn .ensures .1 .0 k (subst (λ (x : ℕ). k < x) (q .turn .kept .1 .1 .1 .1 .1 .0 ∙ sectors p .1) h)) (ltb-true _ narrowLimit t),
-    )
+    let a = entry p .args in
+    record {
+      within = omega arith;
+      outs = lengths q .0;
+      raised = lengths q .1;
+      summed = lengths q .2;
+      amounts = turn-amounts (a .n) (coefficients p) (a .start .now) (l .done) (l .out) (l .inv .amounts) (l .inv .changed) (q .turn .ensures .1 .1 .0);
+      changed = turn-more (a .n) (coefficients p) (a .start .now) (l .done) (l .out) (l .inv .amounts) (l .inv .changed) (sym (ne-eqb _ 0 (c .if1 .left)) ∙ q .turn .ensures .0);
+      carried = q .turn .ensures .1 .1 .1;
+      slim = λ t k h. lt-of-le-of-lt (q .turn .ensures .1 .0 k (subst (λ (x : ℕ). k < x) (q .turn .kept .1 .1 .1 .1 .1 .0 ∙ sectors p .1) h)) (ltb-true _ narrowLimit t);
+    }
 
 returns-2 : tie.Need-returns-2 Inv-loop μ-loop
 returns-2 c =
     let l = c .before .loop in
     let a = entry (c .before) .args in
-    (nine-failed (a .n) (coefficients (c .before)) (a .start .now) (a .budget) (λ k h. l .inv .5 k (omega arith)), λ e. absurd (false≢true e))
+    (nine-failed (a .n) (coefficients (c .before)) (a .start .now) (a .budget) (λ k h. l .inv .changed k (omega arith)), λ e. absurd (false≢true e))
 
 pub run-turns-spec : {M : Type 1} → statement M
 run-turns-spec =
