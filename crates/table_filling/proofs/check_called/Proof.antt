@@ -1,9 +1,9 @@
--- `coefficients::check_called` meets its contract: the lengths of the table's slices are the first of each list. Assumes nothing.
+-- `table_filling::check_called` meets its contract: the lengths of the table's slices are the first of each list. Assumes nothing.
 use mathlib.Core.List.{[], _∷_}
 use borrow.Author.Needs.{needs}
 use Rattle.theory_tables.proofs.Tables.{slice-lengths}
-use Rattle.coefficients.proofs.check_called.Statement.{statement}
-use Rattle.coefficients.proofs.check_called.Tie as tie
+use Rattle.table_filling.proofs.check_called.Statement.{statement}
+use Rattle.table_filling.proofs.check_called.Tie as tie
 
 check-table-requires : tie.Need-check-table-requires
 check-table-requires c κs =

@@ -1,4 +1,4 @@
--- `coefficients::fill_sheets` meets its contract: its checks, then each sheet from those before it. Assumes nothing.
+-- `table_filling::fill_sheets` meets its contract: its checks, then each sheet from those before it. Assumes nothing.
 use mathlib.Core.Bool.{false≢true}
 use mathlib.Core.List.{List, [], _∷_}
 use mathlib.Core.Path.{_≡_, sym, ap, subst⁻¹, _∙_}
@@ -13,8 +13,8 @@ use Rattle.model.specs.Calls.{tableChecks, inputCoefficients, valueAddedCoeffic
 use Rattle.model.specs.declared.Answer.{Answer}
 use Rattle.theory.proofs.Verdicts.{answered-pass, answered-on, answered-end}
 use Rattle.theory_tables.proofs.Tables.{Accepted, accepted-table, nearest-shares, inputs-small, domestic-from, demand-from}
-use Rattle.coefficients.proofs.fill_sheets.Statement.{statement}
-use Rattle.coefficients.proofs.fill_sheets.Tie as tie
+use Rattle.table_filling.proofs.fill_sheets.Statement.{statement}
+use Rattle.table_filling.proofs.fill_sheets.Tie as tie
 
 abbrev entry : tie.After-check-called → tie.Start
 entry q = q .before .before .before .before .before .before .before .before .before .before .before .before .before
