@@ -6,10 +6,10 @@ use Prim.Native.Nat.{ℕ, _+_, _*_}
 use lib.Dec.{eqb}
 use lib.ListN.{length, replicate}
 use Rattle.model.specs.Numbers.{one, tabulate, tabulateCells, cell, at, transposed}
-use Rattle.model.specs.Table.{Table, share, absorption, inputCoefficient, valueAddedCoefficient, importCoefficient, domesticCoefficient, domesticDemand}
-use Rattle.model.specs.Rounds.{weighted, intermediate, round, rounds, changes, settling, settled, impliedDemand, unit, inverse, inverseRounds, dispersion, impact, impactRounds}
-use Rattle.model.specs.Checks.{Report, accepts, refuses, output}
-use Rattle.model.specs.Calls.{coefficientsReport, inputCoefficients, valueAddedCoefficients, importCoefficients, domesticCoefficients, domesticDemands, productionReport, priceReport, impliedReport, inverseReport, impactReport}
+use Rattle.model.specs.Table.{Table, tableOf, share, absorption, inputCoefficient, valueAddedCoefficient, importCoefficient, domesticCoefficient, domesticDemand}
+use Rattle.model.specs.Rounds.{weighted, intermediate, round, rounds, changes, settling, settled, impliedDemand, inducedValueAdded, inducedImports, unit, inverse, inverseRounds, dispersion, rowSlice, impact, impactRounds}
+use Rattle.model.specs.Checks.{Report, accepts, refuses, output, productionBudget, priceBudget}
+use Rattle.model.specs.Calls.{coefficientsReport, inputCoefficients, valueAddedCoefficients, importCoefficients, domesticCoefficients, domesticDemands, productionReport, priceReport, impliedReport, inducedReport, inverseReport, impactReport}
 use Rattle.model.specs.Aggregation.{mergedTable, groupTotal, groupSizes, aggregateReport}
 
 -- what a call says, and its output slices after it
@@ -70,6 +70,12 @@ module _ (n : ℕ) (d : List ℕ) where
             ∷ output r n (dispersion n (transposed (at n (inverse n d budget))))
             ∷ [];
       }
+
+  -- here d stands for the input coefficients a
+  abbrev inducedOf : (m v F y : List ℕ) → Result
+  inducedOf m v F y =
+      let r = inducedReport n d m v F y (n ∷ n ∷ []) in
+      record { said = r; outputs = output r n (inducedValueAdded n v y) ∷ output r n (inducedImports n (at n d) m F y) ∷ [] }
 
   -- the two sides of an exact balance b / q over a start s
   abbrev pub leftSide : List ℕ → List ℕ
@@ -147,6 +153,80 @@ pub slips :
     × (changes 2 (at 2 d) f 8 ≡ true)
 unfolding rounds round intermediate changes
 slips = (refl, refl)
+
+-- ---- document 01, "Questions a call asks, in this order": limits, places, and the first of several faults
+-- two sectors that buy nothing; and two of which only the second buys, from both, so that its column takes more rounds
+abbrev idle : List ℕ
+idle = 0 ∷ 0 ∷ 0 ∷ 0 ∷ []
+
+abbrev buying : List ℕ
+buying = 0 ∷ 20000 ∷ 0 ∷ 10000 ∷ []
+
+-- 950,001 in column 1
+abbrev tooMuch : List ℕ
+tooMuch = 0 ∷ 950000 ∷ 0 ∷ 1 ∷ []
+
+-- one column of two sectors, and nothing in it
+abbrev leaves : ℕ → ℕ → List (List ℕ)
+leaves a b = (a ∷ b ∷ []) ∷ []
+
+abbrev nothingInduced : List (List ℕ)
+nothingInduced = (0 ∷ 0 ∷ []) ∷ (0 ∷ 0 ∷ []) ∷ []
+
+unfoldable pub questionRows : List Row
+questionRows =
+    -- 7 adds up columns: 950,001 in a row passes
+    productionOf 2 (950000 ∷ 1 ∷ 0 ∷ 0 ∷ []) (0 ∷ 0 ∷ []) 1 ⊳ (accepts (1 ∷ []) leaving leaves 0 0)
+    ∷ productionOf 2 tooMuch (0 ∷ 0 ∷ []) 1 ⊳ (refuses 1 7 1 leaving leaves 0 0)
+    -- 8: a demand of 2,000,000,000, a direct rise of 1,000,000,000, a production of 1,600,000,000,000 in all; and one more
+    ∷ productionOf 2 idle (0 ∷ 2000000000 ∷ []) 1 ⊳ (accepts (1 ∷ []) leaving leaves 0 2000000000)
+    ∷ productionOf 2 idle (0 ∷ 2000000001 ∷ []) 1 ⊳ (refuses 1 8 1 leaving leaves 0 0)
+    ∷ priceOf 2 idle (0 ∷ 1000000000 ∷ []) 1 ⊳ (accepts (1 ∷ []) leaving leaves 0 1000000000)
+    ∷ priceOf 2 idle (0 ∷ 1000000001 ∷ []) 1 ⊳ (refuses 1 8 1 leaving leaves 0 0)
+    ∷ impliedOf 2 idle (1600000000000 ∷ 0 ∷ []) ⊳ (accepts [] leaving leaves 1600000000000 0)
+    ∷ impliedOf 2 idle (1600000000000 ∷ 1 ∷ []) ⊳ (refuses 0 8 1 leaving leaves 0 0)
+    ∷ impliedOf 2 idle (1600000000001 ∷ 0 ∷ []) ⊳ (refuses 0 8 0 leaving leaves 0 0)
+    -- the inverse: the larger count of its columns, and 9 at the first column that does not settle
+    ∷ inverseOf 2 buying 4 ⊳ (accepts (4 ∷ []) leaving ((1000000 ∷ 20202 ∷ 0 ∷ 1010101 ∷ []) ∷ (985074 ∷ 1014925 ∷ []) ∷ (1004975 ∷ 995024 ∷ []) ∷ []))
+    ∷ inverseOf 2 buying 3 ⊳ (refuses 1 9 1 leaving (idle ∷ (0 ∷ 0 ∷ []) ∷ (0 ∷ 0 ∷ []) ∷ []))
+    -- induced amounts of the worked table. What industry needs is rounded down before the import share is taken: 700,000 of 1, not of 1.5
+    ∷ inducedOf 2 (100000 ∷ 200000 ∷ 300000 ∷ 300000 ∷ []) (250000 ∷ 200000 ∷ []) (600000 ∷ 500000 ∷ []) (500 ∷ 900 ∷ []) (999 ∷ 1999 ∷ [])
+    ⊳ (accepts [] leaving ((599 ∷ 999 ∷ []) ∷ (249 ∷ 359 ∷ []) ∷ []))
+    ∷ inducedOf 1 (500000 ∷ []) (700000 ∷ []) (999999 ∷ []) (1 ∷ []) (1 ∷ []) ⊳ (accepts [] leaving ((0 ∷ []) ∷ (0 ∷ []) ∷ []))
+    -- 3 of their shares, of one and of one more, through a, m and v; then of F, of 1,000,000,000 and of one more; 8 after it
+    ∷ inducedOf 1 (1000000 ∷ []) (1000000 ∷ []) (1000000 ∷ []) (1000000000 ∷ []) (1 ∷ []) ⊳ (accepts [] leaving ((1 ∷ []) ∷ (1000000001 ∷ []) ∷ []))
+    ∷ inducedOf 2 (0 ∷ 0 ∷ 0 ∷ 1000001 ∷ []) (1000001 ∷ 0 ∷ []) (1000001 ∷ 0 ∷ []) (1000000001 ∷ 0 ∷ []) (1600000000001 ∷ 0 ∷ []) ⊳ (refuses 0 3 3 leaving nothingInduced)
+    ∷ inducedOf 2 idle (0 ∷ 1000001 ∷ []) (1000001 ∷ 0 ∷ []) (1000000001 ∷ 0 ∷ []) (1600000000001 ∷ 0 ∷ []) ⊳ (refuses 0 3 5 leaving nothingInduced)
+    ∷ inducedOf 2 idle (0 ∷ 0 ∷ []) (0 ∷ 1000001 ∷ []) (1000000001 ∷ 0 ∷ []) (1600000000001 ∷ 0 ∷ []) ⊳ (refuses 0 3 7 leaving nothingInduced)
+    ∷ inducedOf 2 idle (0 ∷ 0 ∷ []) (0 ∷ 0 ∷ []) (0 ∷ 1000000001 ∷ []) (1600000000001 ∷ 0 ∷ []) ⊳ (refuses 0 3 9 leaving nothingInduced)
+    ∷ inducedOf 2 idle (0 ∷ 0 ∷ []) (0 ∷ 0 ∷ []) (0 ∷ 1000000000 ∷ []) (1600000000000 ∷ 1 ∷ []) ⊳ (refuses 0 8 1 leaving nothingInduced)
+    -- of several faults the first is told: 1 before 2, 2 before 7, 7 before 8, 8 before 9 and 10
+    ∷ productionOf 0 idle (0 ∷ []) 0 ⊳ (refuses 1 1 0 leaving ([] ∷ []))
+    ∷ productionOf 2 tooMuch (2000000001 ∷ []) 0 ⊳ (refuses 1 2 0 leaving leaves 0 0)
+    ∷ productionOf 2 tooMuch (2000000001 ∷ 0 ∷ []) 0 ⊳ (refuses 1 7 1 leaving leaves 0 0)
+    ∷ productionOf 2 d (2000000001 ∷ 0 ∷ []) 0 ⊳ (refuses 1 8 0 leaving leaves 0 0)
+    ∷ impliedOf 2 tooMuch (1600000000000 ∷ 1 ∷ []) ⊳ (refuses 0 7 1 leaving leaves 0 0)
+    ∷ impliedOf 2 d (0 ∷ 1600000000001 ∷ []) ⊳ (refuses 0 8 1 leaving leaves 0 0)
+    ∷ inverseOf 2 tooMuch 0 ⊳ (refuses 1 7 1 leaving (idle ∷ (0 ∷ 0 ∷ []) ∷ (0 ∷ 0 ∷ []) ∷ []))
+    ∷ inducedOf 2 (1000001 ∷ []) (0 ∷ 0 ∷ []) (0 ∷ 0 ∷ []) (0 ∷ 0 ∷ []) (0 ∷ 0 ∷ []) ⊳ (refuses 0 2 0 leaving nothingInduced)
+    ∷ []
+
+-- Theorem, for the reader: every case above is answered as stated
+pub worked-questions : map (λ (r : Row). r .given) questionRows ≡ map (λ (r : Row). r .stated) questionRows
+unfolding questionRows productionReport priceReport impliedReport inducedReport inverseReport intermediate round rounds changes settling settled impliedDemand inducedValueAdded inducedImports unit inverse inverseRounds dispersion
+worked-questions = refl
+
+-- Theorem, for the reader: a sector's row of a sheet is that stretch of it; and none where the sector, the length or n is wrong
+pub worked-slices :
+    _≡_ {A = List (List ℕ)}
+    (rowSlice 2 d 0 ∷ rowSlice 2 d 1 ∷ rowSlice 2 d 2 ∷ rowSlice 2 (75000 ∷ d) 0 ∷ rowSlice 0 [] 0 ∷ rowSlice 41 (replicate 1681 1) 0 ∷ [])
+    ((75000 ∷ 150000 ∷ []) ∷ (240000 ∷ 240000 ∷ []) ∷ [] ∷ [] ∷ [] ∷ [] ∷ [])
+unfolding rowSlice
+worked-slices = refl
+
+-- Theorem, for the reader: document 02, ticket 5, "a budget of 1,400", of productions, and of prices and inverse columns
+pub worked-budgets : (productionBudget ≡ 1400) × (priceBudget ≡ 1400)
+worked-budgets = (refl, refl)
 
 -- ---- document 02, ticket 3: the adjustment item
 -- two sectors whose sheets are all 0 but for f: they sell abroad what they make, of value added alone
@@ -237,6 +317,10 @@ impactRows =
     -- 8 of the first demand, then of the second, then 17; the place is the sector for both
     ∷ impactOf 2 d (0 ∷ 2000000001 ∷ []) (2000000001 ∷ 0 ∷ []) 9 ⊳ (refuses 1 8 1 leaving noRise)
     ∷ impactOf 2 d f (624 ∷ 2000000001 ∷ []) 9 ⊳ (refuses 1 8 1 leaving noRise)
+    -- 7 before both; 2 of the second demand's length too, before 7
+    ∷ impactOf 2 tooMuch (0 ∷ 2000000001 ∷ []) (0 ∷ 0 ∷ []) 9 ⊳ (refuses 1 7 1 leaving noRise)
+    ∷ impactOf 2 tooMuch f (626 ∷ []) 9 ⊳ (refuses 1 2 0 leaving noRise)
+    ∷ impactOf 2 d (625 ∷ []) f 9 ⊳ (refuses 1 2 0 leaving noRise)
     ∷ []
 
 -- Theorem, for the reader: every case above is answered as stated
@@ -310,9 +394,25 @@ mergedRows =
     ∷ mergedOf (forDemand 400000001) (7 ∷ []) ⊳ (refuses 0 18 0 leaving nothing 1)
     -- 6 comes before 18: a sector that imports more than is needed, and an empty group
     ∷ mergedOf (single 0 0 10 5 5 5) (0 ∷ []) ⊳ (refuses 0 6 0 leaving nothing 1)
+    -- of several faults the first is told: 1 before 2, 2 before 3, 3 before 16, 16 before 4, 4 before 5, 5 before 6
+    ∷ mergedOf (tableOf 41 [] ([] ∷ [] ∷ [] ∷ [] ∷ [] ∷ [] ∷ [])) (1 ∷ []) ⊳ (refuses 0 1 0 leaving nothing 1)
+    ∷ mergedOf (single 1000000001 0 0 0 0 0) [] ⊳ (refuses 0 2 0 leaving nothing 0)
+    ∷ mergedOf (exporting (0 ∷ 1000000001 ∷ []) (0 ∷ 1 ∷ []) (1 ∷ 0 ∷ []) (0 ∷ 0 ∷ [])) (3 ∷ []) ⊳ (refuses 0 3 7 leaving nothing 1)
+    ∷ mergedOf (exporting (0 ∷ 1000000000 ∷ []) (0 ∷ 1 ∷ []) (1 ∷ 0 ∷ []) (0 ∷ 0 ∷ [])) (3 ∷ []) ⊳ (refuses 0 16 1 leaving nothing 1)
+    ∷ mergedOf (single 1 0 0 5 0 0) (1 ∷ []) ⊳ (refuses 0 4 0 leaving nothing 1)
+    ∷ mergedOf (single 0 0 0 5 0 0) (1 ∷ []) ⊳ (refuses 0 5 0 leaving nothing 1)
     ∷ []
 
 -- Theorem, for the reader: every case above is answered as stated
 pub worked-merging : map (λ (r : Row). r .given) mergedRows ≡ map (λ (r : Row). r .stated) mergedRows
 unfolding mergedRows aggregateReport groupTotal groupSizes absorption
 worked-merging = refl
+
+-- Theorem, for the reader: 2 asks the length of the merged x, g × g, and of each merged column, g
+pub merged-lengths :
+    _≡_ {A = List Report}
+    (aggregateReport threeSectors (5 ∷ 2 ∷ []) (4 ∷ []) (replicate 7 2) ∷ aggregateReport threeSectors (5 ∷ 2 ∷ []) (9 ∷ []) (replicate 7 2)
+    ∷ aggregateReport threeSectors (5 ∷ 2 ∷ []) (4 ∷ []) (replicate 6 2 ++ (3 ∷ [])) ∷ [])
+    (accepts [] ∷ refuses 0 2 0 ∷ refuses 0 2 0 ∷ [])
+unfolding aggregateReport groupTotal absorption
+merged-lengths = refl

@@ -2,14 +2,15 @@
 use mathlib.Core.Bool.{Bool, true, _&&_}
 use mathlib.Core.Path.{_≡_, refl}
 use mathlib.Core.List.{List, [], _∷_, _++_, map, reverse}
-use Prim.Native.Nat.{ℕ}
-use lib.Dec.{ltb}
+use Prim.Native.Nat.{ℕ, _<_}
+use native.Mathlib.Omega.{arith}
+use lib.Dec.{ltb, lit<, lit≤}
 use lib.ListN.{length, take, replicate}
 use Rattle.model.specs.Numbers.{setPositions}
-use Rattle.model.specs.Table.{Table, tableOf}
+use Rattle.model.specs.Table.{Table, tableOf, sectorLimit}
 use Rattle.model.specs.Checks.{accepts, refuses}
-use Rattle.model.specs.File.{Entry, columnKinds, encode, fileOf, wholeAt, insideAt, entryAt, Reading, walkWith, reading, readingWith, flowsOf, columnOf, fileLimit, markTotal}
-use Rattle.model.specs.Writer.{tableEntries, written, writerReport, returned}
+use Rattle.model.specs.File.{Entry, Within, wordLimit, columnKinds, encode, fileOf, wholeAt, insideAt, entryAt, Reading, walkWith, reading, readingWith, flowsOf, columnOf, fileLimit, markTotal, called}
+use Rattle.model.specs.Writer.{tableEntries, written, writerReport, Ascending, returned}
 
 abbrev pub naming : ℕ → ℕ → ℕ → Entry
 naming word position amount = record { word = word; position = position; amount = amount }
@@ -81,6 +82,43 @@ pub worked-writer :
 unfolding encode fileOf tableEntries written writerReport
 worked-writer = (refl, refl, refl, refl, refl)
 
+-- exactly 12,883 bytes are lent; of several faults the first is told: 1 before 2, 2 before 3
+pub worked-lent :
+    (writerReport (workedTable zeros zeros) 12883 ≡ accepts (91 ∷ []))
+    × (writerReport (tableOf 41 [] []) 91 ≡ refuses 1 1 0)
+    × (writerReport (workedTable zeros (1000000001 ∷ 0 ∷ [])) 91 ≡ refuses 1 2 0)
+unfolding encode fileOf tableEntries written writerReport
+worked-lent = (refl, refl, refl)
+
+-- Theorem, for the reader: the form of a written file. Cells ascend row by row, x before the columns. Cells in another order, a cell that stands twice,
+-- and a cell of 0 are not in the form
+inside : (word position amount : ℕ) → word < wordLimit → (word < sectorLimit → word < 2) → position < 2 → Within 2 (naming word position amount)
+inside word position amount k r p = record { known = k; row = r; place = p }
+
+pub worked-form :
+    Ascending 2 0 (naming 0 1 1 ∷ naming 1 0 1 ∷ naming 40 0 1 ∷ [])
+    × (Ascending 2 0 (naming 1 0 1 ∷ naming 0 1 1 ∷ []) → ⊥)
+    × (Ascending 2 0 (naming 40 0 1 ∷ naming 1 1 1 ∷ []) → ⊥)
+    × (Ascending 2 0 (naming 0 1 1 ∷ naming 0 1 1 ∷ []) → ⊥)
+    × (Ascending 2 0 (naming 0 1 0 ∷ []) → ⊥)
+worked-form = (
+  (
+    inside 0 1 1 (lit< tt) (λ _. lit< tt) (lit< tt),
+    lit≤ tt,
+    lit< tt,
+    (
+      inside 1 0 1 (lit< tt) (λ _. lit< tt) (lit< tt),
+      lit≤ tt,
+      lit< tt,
+      (inside 40 0 1 (lit< tt) (λ h. omega (arith, h)) (lit< tt), lit≤ tt, lit< tt, tt),
+    ),
+  ),
+  λ h. omega (arith, h .3 .1),
+  λ h. omega (arith, h .3 .1),
+  λ h. omega (arith, h .3 .1),
+  λ h. omega (arith, h .2),
+)
+
 -- Theorem, for the reader: words are in the order of kinds, 2 for the rows of x and then those of the columns
 abbrev rising : List ℕ → Bool
 rising [] = true
@@ -129,6 +167,14 @@ rows =
     ∷ (1 ∷ 2 ∷ 3 ∷ 1 ∷ 0 ∷ 0 ∷ 0 ∷ 0 ∷ 3 ∷ 1 ∷ 0 ∷ 0 ∷ 0 ∷ 0 ∷ 8 ∷ []) ⊳ Reading.refused 14 8
     ∷ (1 ∷ 2 ∷ 3 ∷ 1 ∷ 0 ∷ 0 ∷ 0 ∷ 0 ∷ 8 ∷ []) ⊳ Reading.table 2 (naming 40 0 0 ∷ [])
     ∷ []
+
+-- Theorem, for the reader: 2 comes first: 1,600 cells for x, 40 for each of seven columns, and 47 words of marks
+pub worked-called :
+    _≡_ {A = List Reading}
+    (called 1600 (replicate 7 40) 47 [] ∷ called 1599 (replicate 7 40) 47 [] ∷ called 1600 (replicate 6 40 ++ (39 ∷ [])) 47 [] ∷ called 1600 (replicate 7 40) 46 [] ∷ [])
+    (Reading.refused 15 0 ∷ Reading.refused 2 0 ∷ Reading.refused 2 0 ∷ Reading.refused 2 0 ∷ [])
+unfolding called readingWith
+worked-called = refl
 
 -- Theorem, for the reader: every file above is read as the paper states it
 pub refusals : map (λ (r : Row). reading (r .file)) rows ≡ map (λ (r : Row). r .stated) rows

@@ -10,7 +10,8 @@ use Rattle.model.specs.Calls.{coefficientsReport, inputCoefficients, val
 use Rattle.model.specs.File.{Entry, encode, fileOf, wholeAt, insideAt, entryAt, walkWith, readingWith}
 use Rattle.model.specs.Bytes.{bytes}
 use Rattle.model.specs.Text.{digits}
-use Rattle.model.specs.Page.{refusalLine, tablePage, page}
+use Rattle.model.specs.Checks.{accepts, refuses}
+use Rattle.model.specs.Page.{refusalLine, tablePage, page, pageReport}
 use Rattle.model.proofs.WorkedFile.{naming, entries}
 
 -- a file, and the bytes of its page as the paper prints them
@@ -56,3 +57,8 @@ unfolding pages
     coefficientsReport inputCoefficients valueAddedCoefficients importCoefficients domesticCoefficients domesticDemands productionReport inducedReport
     encode fileOf wholeAt insideAt entryAt walkWith readingWith digits refusalLine tablePage page
 worked-pages = refl
+
+-- Theorem, for the reader: a buffer of 2,851 bytes, no more and no fewer, takes every page; the answer tells the bytes of the page
+pub worked-buffer : (pageReport 2851 [] ≡ accepts (13 ∷ [])) × (pageReport 2850 [] ≡ refuses 1 2 0) × (pageReport 2852 [] ≡ refuses 1 2 0)
+unfolding readingWith digits refusalLine page pageReport
+worked-buffer = (refl, refl, refl)
