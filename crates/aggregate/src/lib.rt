@@ -11,7 +11,7 @@ ghost use mathlib.Core.Path.{_≡_};
 ghost use Prim.Native.Nat.{ℕ, _*_, _≤_};
 ghost use lib.ListN.{length};
 ghost use Rattle.model.specs.Numbers.{cell, matrix, setPositions, tabulate};
-ghost use Rattle.model.specs.Table.{sectorLimit, tableOf};
+ghost use Rattle.model.specs.Table.{sectorLimit, tableOf, tableBy};
 ghost use Rattle.model.specs.Checks.{amountLimit, output, report};
 ghost use Rattle.model.specs.Aggregation.{aggregateReport, mergedColumn, mergedFlow};
 ghost use Rattle.model.specs.Contracts.{Aggregated};
@@ -36,7 +36,7 @@ fn check_called(
     g_len: usize,
     sizes_len: usize,
 ) -> Answer
-    ensures { λ r. ⌜ report r ≡ aggregateReport (tableOf n (now (x .entry)) (now («final_demand» .entry) ∷ now (exports .entry) ∷ now (imports .entry) ∷ now («value_added» .entry) ∷ now (production .entry) ∷ now (adjustment .entry) ∷ [])) (now (groups .entry)) («merged_len» ∷ []) («f_len» ∷ «e_len» ∷ «m_len» ∷ «v_len» ∷ «p_len» ∷ «g_len» ∷ «sizes_len» ∷ []) ⌝ }
+    ensures { λ r. ⌜ report r ≡ aggregateReport (tableBy n (now (x .entry)) (now («final_demand» .entry)) (now (exports .entry)) (now (imports .entry)) (now («value_added» .entry)) (now (production .entry)) (now (adjustment .entry))) (now (groups .entry)) («merged_len» ∷ []) («f_len» ∷ «e_len» ∷ «m_len» ∷ «v_len» ∷ «p_len» ∷ «g_len» ∷ «sizes_len» ∷ []) ⌝ }
 {
     let merged = [merged_len];
     let lent = [f_len, e_len, m_len, v_len, p_len, g_len, sizes_len];
@@ -114,9 +114,9 @@ pub fn aggregate(
     merged_adjustment: &mut [u64],
     sizes: &mut [u64],
 ) -> Answer
-    ensures { λ r. ⌜ Aggregated (tableOf n (now (x .entry)) (now («final_demand» .entry) ∷ now (exports .entry) ∷ now (imports .entry) ∷ now («value_added» .entry) ∷ now (production .entry) ∷ now (adjustment .entry) ∷ [])) (now (groups .entry))
-        (tableOf (length (now (groups .entry))) (now («merged_x» .entry)) (now («merged_final_demand» .entry) ∷ now («merged_exports» .entry) ∷ now («merged_imports» .entry) ∷ now («merged_value_added» .entry) ∷ now («merged_production» .entry) ∷ now («merged_adjustment» .entry) ∷ [])) (now (sizes .entry)) (report r)
-        (tableOf (length (now (groups .entry))) (now («merged_x» .exit)) (now («merged_final_demand» .exit) ∷ now («merged_exports» .exit) ∷ now («merged_imports» .exit) ∷ now («merged_value_added» .exit) ∷ now («merged_production» .exit) ∷ now («merged_adjustment» .exit) ∷ [])) (now (sizes .exit)) ⌝ }
+    ensures { λ r. ⌜ Aggregated (tableBy n (now (x .entry)) (now («final_demand» .entry)) (now (exports .entry)) (now (imports .entry)) (now («value_added» .entry)) (now (production .entry)) (now (adjustment .entry))) (now (groups .entry))
+        (tableBy (length (now (groups .entry))) (now («merged_x» .entry)) (now («merged_final_demand» .entry)) (now («merged_exports» .entry)) (now («merged_imports» .entry)) (now («merged_value_added» .entry)) (now («merged_production» .entry)) (now («merged_adjustment» .entry))) (now (sizes .entry)) (report r)
+        (tableBy (length (now (groups .entry))) (now («merged_x» .exit)) (now («merged_final_demand» .exit)) (now («merged_exports» .exit)) (now («merged_imports» .exit)) (now («merged_value_added» .exit)) (now («merged_production» .exit)) (now («merged_adjustment» .exit))) (now (sizes .exit)) ⌝ }
 {
     let answer = check_called(
         n,

@@ -10,7 +10,7 @@ ghost use Prim.Native.Nat.{ℕ, _*_, _<_, _≤_};
 ghost use lib.Dec.{eqb, leb};
 ghost use lib.ListN.{length};
 ghost use Rattle.model.specs.Numbers.{all, cell, tabulate, wordPositions};
-ghost use Rattle.model.specs.Table.{sectorLimit, tableOf};
+ghost use Rattle.model.specs.Table.{sectorLimit, tableBy};
 ghost use Rattle.model.specs.Checks.{amountLimit, lengths, report, single, size, verdict};
 ghost use Rattle.model.specs.Aggregation.{aggregateReport, groupCount, groupFits, isPartition};
 ghost use Rattle.theory_groups.specs.Groups.{decidingWithin};
@@ -163,7 +163,7 @@ pub fn check_merging(
     merged: &[usize],
     lent: &[usize],
 ) -> Answer
-    ensures { λ r. ⌜ report r ≡ aggregateReport (tableOf n (now (x .entry)) (now («final_demand» .entry) ∷ now (exports .entry) ∷ now (imports .entry) ∷ now («value_added» .entry) ∷ now (production .entry) ∷ now (adjustment .entry) ∷ [])) (now (groups .entry)) (now (merged .entry)) (now (lent .entry)) ⌝ }
+    ensures { λ r. ⌜ report r ≡ aggregateReport (tableBy n (now (x .entry)) (now («final_demand» .entry)) (now (exports .entry)) (now (imports .entry)) (now («value_added» .entry)) (now (production .entry)) (now (adjustment .entry))) (now (groups .entry)) (now (merged .entry)) (now (lent .entry)) ⌝ }
 {
     let matrices = [x.len()];
     let columns = [

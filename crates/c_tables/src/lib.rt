@@ -5,7 +5,7 @@ use c_answers::tell_answer;
 use coefficients::coefficients;
 ghost use mathlib.Core.List.{[], _∷_};
 ghost use lib.ListN.{length};
-ghost use Rattle.model.specs.Table.{tableOf};
+ghost use Rattle.model.specs.Table.{tableBy};
 ghost use Rattle.model.specs.Checks.{reportTold};
 ghost use Rattle.model.specs.Contracts.{Aggregated, Derived};
 
@@ -28,7 +28,7 @@ pub extern "C" fn tawqeshim_coefficients(
     number: &mut u8,
     place: &mut usize,
 )
-    ensures { λ _. ⌜ Derived (tableOf n (now (x .entry)) (now («final_demand» .entry) ∷ now (exports .entry) ∷ now (imports .entry) ∷ now («value_added» .entry) ∷ now (production .entry) ∷ now (adjustment .entry) ∷ []))
+    ensures { λ _. ⌜ Derived (tableBy n (now (x .entry)) (now («final_demand» .entry)) (now (exports .entry)) (now (imports .entry)) (now («value_added» .entry)) (now (production .entry)) (now (adjustment .entry)))
         (now (a .entry)) (now (v .entry)) (now (m .entry)) (now (d .entry)) (now (f .entry)) (reportTold (now (number .exit)) (now (place .exit)) [])
         (now (a .exit)) (now (v .exit)) (now (m .exit)) (now (d .exit)) (now (f .exit)) ⌝ }
 {
@@ -73,9 +73,9 @@ pub extern "C" fn tawqeshim_aggregate(
     number: &mut u8,
     place: &mut usize,
 )
-    ensures { λ _. ⌜ Aggregated (tableOf n (now (x .entry)) (now («final_demand» .entry) ∷ now (exports .entry) ∷ now (imports .entry) ∷ now («value_added» .entry) ∷ now (production .entry) ∷ now (adjustment .entry) ∷ [])) (now (groups .entry))
-        (tableOf (length (now (groups .entry))) (now («merged_x» .entry)) (now («merged_final_demand» .entry) ∷ now («merged_exports» .entry) ∷ now («merged_imports» .entry) ∷ now («merged_value_added» .entry) ∷ now («merged_production» .entry) ∷ now («merged_adjustment» .entry) ∷ [])) (now (sizes .entry)) (reportTold (now (number .exit)) (now (place .exit)) [])
-        (tableOf (length (now (groups .entry))) (now («merged_x» .exit)) (now («merged_final_demand» .exit) ∷ now («merged_exports» .exit) ∷ now («merged_imports» .exit) ∷ now («merged_value_added» .exit) ∷ now («merged_production» .exit) ∷ now («merged_adjustment» .exit) ∷ [])) (now (sizes .exit)) ⌝ }
+    ensures { λ _. ⌜ Aggregated (tableBy n (now (x .entry)) (now («final_demand» .entry)) (now (exports .entry)) (now (imports .entry)) (now («value_added» .entry)) (now (production .entry)) (now (adjustment .entry))) (now (groups .entry))
+        (tableBy (length (now (groups .entry))) (now («merged_x» .entry)) (now («merged_final_demand» .entry)) (now («merged_exports» .entry)) (now («merged_imports» .entry)) (now («merged_value_added» .entry)) (now («merged_production» .entry)) (now («merged_adjustment» .entry))) (now (sizes .entry)) (reportTold (now (number .exit)) (now (place .exit)) [])
+        (tableBy (length (now (groups .entry))) (now («merged_x» .exit)) (now («merged_final_demand» .exit)) (now («merged_exports» .exit)) (now («merged_imports» .exit)) (now («merged_value_added» .exit)) (now («merged_production» .exit)) (now («merged_adjustment» .exit))) (now (sizes .exit)) ⌝ }
 {
     let answer = aggregate(
         n,

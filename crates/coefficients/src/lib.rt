@@ -3,7 +3,7 @@ use cells::output;
 use model::Answer;
 use table_filling::fill_sheets;
 ghost use mathlib.Core.List.{[], _∷_};
-ghost use Rattle.model.specs.Table.{tableOf};
+ghost use Rattle.model.specs.Table.{tableBy};
 ghost use Rattle.model.specs.Checks.{report};
 ghost use Rattle.model.specs.Contracts.{Derived};
 
@@ -24,7 +24,7 @@ pub fn coefficients(
     d: &mut [u64],
     f: &mut [u64],
 ) -> Answer
-    ensures { λ r. ⌜ Derived (tableOf n (now (x .entry)) (now («final_demand» .entry) ∷ now (exports .entry) ∷ now (imports .entry) ∷ now («value_added» .entry) ∷ now (production .entry) ∷ now (adjustment .entry) ∷ []))
+    ensures { λ r. ⌜ Derived (tableBy n (now (x .entry)) (now («final_demand» .entry)) (now (exports .entry)) (now (imports .entry)) (now («value_added» .entry)) (now (production .entry)) (now (adjustment .entry)))
         (now (a .entry)) (now (v .entry)) (now (m .entry)) (now (d .entry)) (now (f .entry)) (report r)
         (now (a .exit)) (now (v .exit)) (now (m .exit)) (now (d .exit)) (now (f .exit)) ⌝ }
 {

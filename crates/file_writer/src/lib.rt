@@ -18,11 +18,11 @@ ghost use Prim.Native.Nat.{ℕ, _+_, _*_, _<_, _≤_};
 ghost use lib.ListN.{getD, length};
 ghost use lib.Seq.{sets};
 ghost use Rattle.model.specs.Numbers.{cell};
-ghost use Rattle.model.specs.Table.{sectorLimit, tableOf};
+ghost use Rattle.model.specs.Table.{sectorLimit};
 ghost use Rattle.model.specs.Checks.{amountLimit, report, reportWritten, verdict};
 ghost use Rattle.model.specs.File.{columnKinds, encodeAll};
 ghost use Rattle.model.specs.Writer.{rows, wordsEntries, written, writerChecks};
-ghost use Rattle.model.specs.Contracts.{FileWritten, slicesOf};
+ghost use Rattle.model.specs.Contracts.{FileWritten, slicesOf, tableFrom};
 ghost use Rattle.theory_tables.specs.Tables.{TableAmounts, TableSizes};
 
 // The rows of x.
@@ -82,10 +82,10 @@ fn put_table(
     rises: &[u64],
     file: &mut [u8],
 ) -> usize
-    requires { ⌜ (let t = tableOf n (now x) (now «final_demand» ∷ now exports ∷ now imports ∷ now «value_added» ∷ now production ∷ now adjustment ∷ now rises ∷ []) in
+    requires { ⌜ (let t = tableFrom n (slicesOf (now x) (now «final_demand») (now exports) (now imports) (now «value_added») (now production) (now adjustment) (now rises)) in
         TableSizes t × TableAmounts t × (length (written t) ≤ length (now file))) ⌝ }
-    ensures { λ r. ⌜ r ≡ length (written (tableOf n (now (x .entry)) (now («final_demand» .entry) ∷ now (exports .entry) ∷ now (imports .entry) ∷ now («value_added» .entry) ∷ now (production .entry) ∷ now (adjustment .entry) ∷ now (rises .entry) ∷ []))) ⌝ }
-    ensures { λ _. ⌜ now (file .exit) ≡ sets (now (file .entry)) 0 (written (tableOf n (now (x .entry)) (now («final_demand» .entry) ∷ now (exports .entry) ∷ now (imports .entry) ∷ now («value_added» .entry) ∷ now (production .entry) ∷ now (adjustment .entry) ∷ now (rises .entry) ∷ []))) ⌝ }
+    ensures { λ r. ⌜ r ≡ length (written (tableFrom n (slicesOf (now (x .entry)) (now («final_demand» .entry)) (now (exports .entry)) (now (imports .entry)) (now («value_added» .entry)) (now (production .entry)) (now (adjustment .entry)) (now (rises .entry))))) ⌝ }
+    ensures { λ _. ⌜ now (file .exit) ≡ sets (now (file .entry)) 0 (written (tableFrom n (slicesOf (now (x .entry)) (now («final_demand» .entry)) (now (exports .entry)) (now (imports .entry)) (now («value_added» .entry)) (now (production .entry)) (now (adjustment .entry)) (now (rises .entry))))) ⌝ }
 {
     let opening = [1u8, n as u8];
     let flows = put_bytes(&opening, 0, file);
@@ -117,7 +117,7 @@ fn check_written(
     rises: &[u64],
     file: usize,
 ) -> Answer
-    ensures { λ r. ⌜ report r ≡ verdict (writerChecks (tableOf n (now (x .entry)) (now («final_demand» .entry) ∷ now (exports .entry) ∷ now (imports .entry) ∷ now («value_added» .entry) ∷ now (production .entry) ∷ now (adjustment .entry) ∷ now (rises .entry) ∷ [])) file) [] ⌝ }
+    ensures { λ r. ⌜ report r ≡ verdict (writerChecks (tableFrom n (slicesOf (now (x .entry)) (now («final_demand» .entry)) (now (exports .entry)) (now (imports .entry)) (now («value_added» .entry)) (now (production .entry)) (now (adjustment .entry)) (now (rises .entry)))) file) [] ⌝ }
 {
     let matrices = [x.len()];
     let columns = [

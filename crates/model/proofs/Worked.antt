@@ -6,7 +6,7 @@ use Prim.Native.Nat.{ℕ, _+_, _*_}
 use lib.Dec.{eqb}
 use lib.ListN.{length, replicate}
 use Rattle.model.specs.Numbers.{one, tabulate, tabulateCells, cell, at, transposed}
-use Rattle.model.specs.Table.{Table, tableOf, share, absorption, inputCoefficient, valueAddedCoefficient, importCoefficient, domesticCoefficient, domesticDemand}
+use Rattle.model.specs.Table.{Table, tableBy, share, absorption, inputCoefficient, valueAddedCoefficient, importCoefficient, domesticCoefficient, domesticDemand}
 use Rattle.model.specs.Rounds.{weighted, intermediate, round, rounds, changes, settling, settled, impliedDemand, inducedValueAdded, inducedImports, unit, inverse, inverseRounds, dispersion, rowSlice, impact, impactRounds}
 use Rattle.model.specs.Checks.{Report, accepts, refuses, output, productionBudget, priceBudget}
 use Rattle.model.specs.Calls.{coefficientsReport, inputCoefficients, valueAddedCoefficients, importCoefficients, domesticCoefficients, domesticDemands, productionReport, priceReport, impliedReport, inducedReport, inverseReport, impactReport}
@@ -97,13 +97,12 @@ abbrev balance : ℕ → List ℕ → List ℕ → List ℕ → Row
 balance n d s b = (accepts [] leaving (leftSide n d b ∷ [])) ⊳ (accepts [] leaving (rightSide n d s 1 b ∷ []))
 
 -- ---- the worked table
+abbrev workedTable : (imports adjustment : List ℕ) → Table
+workedTable imports adjustment =
+    tableBy 2 (100 ∷ 400 ∷ 300 ∷ 600 ∷ []) (500 ∷ 900 ∷ []) (250 ∷ 560 ∷ []) imports (600 ∷ 1000 ∷ []) (1000 ∷ 2000 ∷ []) adjustment
+
 abbrev table : Table
-table =
-    record {
-      sectors = 2;
-      flows = 100 ∷ 400 ∷ 300 ∷ 600 ∷ [];
-      columns = (500 ∷ 900 ∷ []) ∷ (250 ∷ 560 ∷ []) ∷ (250 ∷ 360 ∷ []) ∷ (600 ∷ 1000 ∷ []) ∷ (1000 ∷ 2000 ∷ []) ∷ (0 ∷ 0 ∷ []) ∷ [];
-    }
+table = workedTable (250 ∷ 360 ∷ []) (0 ∷ 0 ∷ [])
 
 abbrev pub d : List ℕ
 d = 75000 ∷ 150000 ∷ 240000 ∷ 240000 ∷ []
@@ -231,8 +230,7 @@ worked-budgets = (refl, refl)
 -- ---- document 02, ticket 3: the adjustment item
 -- two sectors whose sheets are all 0 but for f: they sell abroad what they make, of value added alone
 abbrev exporting : (exports adjustment valueAdded production : List ℕ) → Table
-exporting e g v x =
-    record { sectors = 2; flows = 0 ∷ 0 ∷ 0 ∷ 0 ∷ []; columns = (0 ∷ 0 ∷ []) ∷ e ∷ (0 ∷ 0 ∷ []) ∷ v ∷ x ∷ g ∷ [] }
+exporting e g v x = tableBy 2 idle (0 ∷ 0 ∷ []) e (0 ∷ 0 ∷ []) v x g
 
 abbrev noSheets : List (List ℕ)
 noSheets = (0 ∷ 0 ∷ 0 ∷ 0 ∷ []) ∷ (0 ∷ 0 ∷ []) ∷ (0 ∷ 0 ∷ []) ∷ (0 ∷ 0 ∷ 0 ∷ 0 ∷ []) ∷ (0 ∷ 0 ∷ []) ∷ []
@@ -241,12 +239,7 @@ unfoldable pub adjustedRows : List Row
 adjustedRows =
     -- the worked table with an adjustment item of 50 and 90, and imports as much larger. Cut by the import share f(0) would be 635, in the divisor
     -- m(0) 285,714
-    coefficientsOf
-    (record {
-      sectors = 2;
-      flows = 100 ∷ 400 ∷ 300 ∷ 600 ∷ [];
-      columns = (500 ∷ 900 ∷ []) ∷ (250 ∷ 560 ∷ []) ∷ (300 ∷ 450 ∷ []) ∷ (600 ∷ 1000 ∷ []) ∷ (1000 ∷ 2000 ∷ []) ∷ (50 ∷ 90 ∷ []) ∷ [];
-    })
+    coefficientsOf (workedTable (300 ∷ 450 ∷ []) (50 ∷ 90 ∷ []))
     ⊳ (accepts [] leaving ((100000 ∷ 200000 ∷ 300000 ∷ 300000 ∷ []) ∷ (600000 ∷ 500000 ∷ []) ∷ (300000 ∷ 250000 ∷ []) ∷ (70000 ∷ 140000 ∷ 225000 ∷ 225000 ∷ []) ∷ (650 ∷ 1325 ∷ []) ∷ []))
     -- E plus G of exactly 1,000,000,000; one more is refused by 16 in its sector, also where 4 would refuse
     ∷ coefficientsOf (exporting (0 ∷ 999999999 ∷ []) (0 ∷ 1 ∷ []) (0 ∷ 1000000000 ∷ []) (0 ∷ 1000000000 ∷ []))
@@ -266,7 +259,7 @@ worked-adjustment = refl
 -- ---- document 02, ticket 6: a, v and m to the nearest millionth
 -- one sector without an adjustment item, by its x, F, E, M, V and X
 abbrev single : (x f e m v p : ℕ) → Table
-single x f e m v p = record { sectors = 1; flows = x ∷ []; columns = (f ∷ []) ∷ (e ∷ []) ∷ (m ∷ []) ∷ (v ∷ []) ∷ (p ∷ []) ∷ (0 ∷ []) ∷ [] }
+single x f e m v p = tableBy 1 (x ∷ []) (f ∷ []) (e ∷ []) (m ∷ []) (v ∷ []) (p ∷ []) (0 ∷ [])
 
 abbrev sheetsOf : (a v m d f : ℕ) → List (List ℕ)
 sheetsOf a v m d f = (a ∷ []) ∷ (v ∷ []) ∷ (m ∷ []) ∷ (d ∷ []) ∷ (f ∷ []) ∷ []
@@ -344,18 +337,8 @@ mergedOf t groups =
 -- three sectors with an adjustment item: F, E, M, V, X and G
 abbrev threeSectors : Table
 threeSectors =
-    record {
-      sectors = 3;
-      flows = 10 ∷ 20 ∷ 30 ∷ 40 ∷ 50 ∷ 60 ∷ 70 ∷ 80 ∷ 90 ∷ [];
-      columns =
-          (100 ∷ 200 ∷ 300 ∷ [])
-          ∷ (95 ∷ 7 ∷ 11 ∷ [])
-          ∷ (45 ∷ 60 ∷ 170 ∷ [])
-          ∷ (100 ∷ 150 ∷ 205 ∷ [])
-          ∷ (220 ∷ 300 ∷ 385 ∷ [])
-          ∷ (10 ∷ 3 ∷ 4 ∷ [])
-          ∷ [];
-    }
+    tableBy 3 (10 ∷ 20 ∷ 30 ∷ 40 ∷ 50 ∷ 60 ∷ 70 ∷ 80 ∷ 90 ∷ [])
+    (100 ∷ 200 ∷ 300 ∷ []) (95 ∷ 7 ∷ 11 ∷ []) (45 ∷ 60 ∷ 170 ∷ []) (100 ∷ 150 ∷ 205 ∷ []) (220 ∷ 300 ∷ 385 ∷ []) (10 ∷ 3 ∷ 4 ∷ [])
 
 -- what a refused call leaves in slices for g sectors
 abbrev nothing : ℕ → List (List ℕ)
@@ -366,7 +349,7 @@ abbrev forDemand : ℕ → Table
 forDemand p =
     let made : List ℕ = 600000000 ∷ p ∷ [] in
     let none : List ℕ = 0 ∷ 0 ∷ [] in
-    record { sectors = 2; flows = 0 ∷ 0 ∷ 0 ∷ 0 ∷ []; columns = made ∷ none ∷ none ∷ made ∷ made ∷ none ∷ [] }
+    tableBy 2 idle made none none made made none
 
 unfoldable pub mergedRows : List Row
 mergedRows =
@@ -395,7 +378,7 @@ mergedRows =
     -- 6 comes before 18: a sector that imports more than is needed, and an empty group
     ∷ mergedOf (single 0 0 10 5 5 5) (0 ∷ []) ⊳ (refuses 0 6 0 leaving nothing 1)
     -- of several faults the first is told: 1 before 2, 2 before 3, 3 before 16, 16 before 4, 4 before 5, 5 before 6
-    ∷ mergedOf (tableOf 41 [] ([] ∷ [] ∷ [] ∷ [] ∷ [] ∷ [] ∷ [])) (1 ∷ []) ⊳ (refuses 0 1 0 leaving nothing 1)
+    ∷ mergedOf (tableBy 41 [] [] [] [] [] [] []) (1 ∷ []) ⊳ (refuses 0 1 0 leaving nothing 1)
     ∷ mergedOf (single 1000000001 0 0 0 0 0) [] ⊳ (refuses 0 2 0 leaving nothing 0)
     ∷ mergedOf (exporting (0 ∷ 1000000001 ∷ []) (0 ∷ 1 ∷ []) (1 ∷ 0 ∷ []) (0 ∷ 0 ∷ [])) (3 ∷ []) ⊳ (refuses 0 3 7 leaving nothing 1)
     ∷ mergedOf (exporting (0 ∷ 1000000000 ∷ []) (0 ∷ 1 ∷ []) (1 ∷ 0 ∷ []) (0 ∷ 0 ∷ [])) (3 ∷ []) ⊳ (refuses 0 16 1 leaving nothing 1)

@@ -1,7 +1,7 @@
 -- Document 01, "The table and its units" and "The sheets, all rounded down"; document 02, ticket 6, by which a, v and m are to the nearest millionth and
 -- only d and f are still rounded down. A quotient by 0 is 0.
 use mathlib.Core.Bool.{Bool, _&&_}
-use mathlib.Core.List.{List, []}
+use mathlib.Core.List.{List, [], _∷_}
 use Prim.Native.Nat.{ℕ, _+_, _*_, _-_, _/_}
 use lib.Dec.{leb}
 use lib.ListN.{getD}
@@ -27,6 +27,10 @@ pub record Table : Type 0 where
 
 abbrev pub tableOf : ℕ → Cells → List Cells → Table
 tableOf n x columns = record { sectors = n; flows = x; columns = columns }
+
+-- by all that it has, in the order in which a call is lent it: "F, E, M, V, X", and G of document 02, ticket 3
+abbrev pub tableBy : (n : ℕ) (x f e m v p g : Cells) → Table
+tableBy n x f e m v p g = tableOf n x (f ∷ e ∷ m ∷ v ∷ p ∷ g ∷ [])
 
 module _ (t : Table) where
   -- column c, and no cell where the table has no such column

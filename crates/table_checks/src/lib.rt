@@ -9,7 +9,7 @@ ghost use mathlib.Core.Path.{_≡_};
 ghost use Prim.Native.Nat.{ℕ, _+_, _*_, _<_, _≤_};
 ghost use lib.ListN.{length};
 ghost use Rattle.model.specs.Numbers.{cell};
-ghost use Rattle.model.specs.Table.{absorption, tableOf, sectorLimit};
+ghost use Rattle.model.specs.Table.{absorption, tableOf, tableBy, sectorLimit};
 ghost use Rattle.model.specs.Checks.{amountLimit, balanceChecks, columnBalances, exportsWithin, importsCovered, lengths, report, rowBalances, size, tableAmounts, verdict};
 ghost use Rattle.theory.specs.Slices.{Columns, Each};
 ghost use Rattle.theory_tables.specs.Tables.{TableAmounts, TableSizes};
@@ -40,7 +40,7 @@ pub fn check_amounts(
     adjustment: &[u64],
 ) -> Answer
     requires { ⌜ length (now x) ≡ n * n ⌝ }
-    ensures { λ r. ⌜ report r ≡ verdict (tableAmounts (tableOf n (now (x .entry)) (now («final_demand» .entry) ∷ now (exports .entry) ∷ now (imports .entry) ∷ now («value_added» .entry) ∷ now (production .entry) ∷ now (adjustment .entry) ∷ []))) [] ⌝ }
+    ensures { λ r. ⌜ report r ≡ verdict (tableAmounts (tableBy n (now (x .entry)) (now («final_demand» .entry)) (now (exports .entry)) (now (imports .entry)) (now («value_added» .entry)) (now (production .entry)) (now (adjustment .entry)))) [] ⌝ }
 {
     let limit = AMOUNT_LIMIT;
     let flows = matrix_within(n, x, limit);
@@ -62,7 +62,7 @@ pub fn check_amounts(
 fn exports_within(n: usize, exports: &[u64], adjustment: &[u64]) -> Answer
     requires { ⌜ (length (now exports) ≡ n) × (length (now adjustment) ≡ n) ⌝ }
     requires { ⌜ ((k : ℕ) → (cell (now exports) k ≤ amountLimit) × (cell (now adjustment) k ≤ amountLimit)) ⌝ }
-    ensures { λ r. ⌜ report r ≡ verdict (exportsWithin (tableOf n [] ([] ∷ now (exports .entry) ∷ [] ∷ [] ∷ [] ∷ now (adjustment .entry) ∷ [])) ∷ []) [] ⌝ }
+    ensures { λ r. ⌜ report r ≡ verdict (exportsWithin (tableBy n [] [] (now (exports .entry)) [] [] [] (now (adjustment .entry))) ∷ []) [] ⌝ }
 {
     for i in 0..n {
         if AMOUNT_LIMIT < exports[i] + adjustment[i] {
@@ -115,7 +115,7 @@ fn rows_balance(
     requires { ⌜ ((k : ℕ) → cell (now x) k ≤ amountLimit) ⌝ }
     requires { ⌜ ((k : ℕ) → cell (now «final_demand») k ≤ amountLimit) ⌝ }
     requires { ⌜ ((k : ℕ) → (cell (now exports) k ≤ amountLimit) × (cell (now imports) k ≤ amountLimit) × (cell (now production) k ≤ amountLimit) × (cell (now adjustment) k ≤ amountLimit)) ⌝ }
-    ensures { λ r. ⌜ report r ≡ verdict (rowBalances (tableOf n (now (x .entry)) (now («final_demand» .entry) ∷ now (exports .entry) ∷ now (imports .entry) ∷ [] ∷ now (production .entry) ∷ now (adjustment .entry) ∷ [])) ∷ []) [] ⌝ }
+    ensures { λ r. ⌜ report r ≡ verdict (rowBalances (tableBy n (now (x .entry)) (now («final_demand» .entry)) (now (exports .entry)) (now (imports .entry)) [] (now (production .entry)) (now (adjustment .entry))) ∷ []) [] ⌝ }
 {
     for i in 0..n {
         let need = need_of(n, x, final_demand, i);
@@ -159,9 +159,9 @@ pub fn check_contents(
     production: &[u64],
     adjustment: &[u64],
 ) -> Answer
-    requires { ⌜ TableSizes (tableOf n (now x) (now «final_demand» ∷ now exports ∷ now imports ∷ now «value_added» ∷ now production ∷ now adjustment ∷ [])) ⌝ }
+    requires { ⌜ TableSizes (tableBy n (now x) (now «final_demand») (now exports) (now imports) (now «value_added») (now production) (now adjustment)) ⌝ }
     ensures { λ r. ⌜ (
-        let t = tableOf n (now (x .entry)) (now («final_demand» .entry) ∷ now (exports .entry) ∷ now (imports .entry) ∷ now («value_added» .entry) ∷ now (production .entry) ∷ now (adjustment .entry) ∷ []) in
+        let t = tableBy n (now (x .entry)) (now («final_demand» .entry)) (now (exports .entry)) (now (imports .entry)) (now («value_added» .entry)) (now (production .entry)) (now (adjustment .entry)) in
         report r ≡ verdict (tableAmounts t ++ balanceChecks t) []) ⌝ }
 {
     let amounts = check_amounts(
@@ -208,7 +208,7 @@ pub fn check_table(
     requires { ⌜ (Each (n * n) (now matrices) → length (now x) ≡ n * n) ⌝ }
     requires { ⌜ (Each n (now lent) → Columns n (now «final_demand» ∷ now exports ∷ now imports ∷ now «value_added» ∷ now production ∷ now adjustment ∷ [])) ⌝ }
     ensures { λ r. ⌜ (
-        let t = tableOf n (now (x .entry)) (now («final_demand» .entry) ∷ now (exports .entry) ∷ now (imports .entry) ∷ now («value_added» .entry) ∷ now (production .entry) ∷ now (adjustment .entry) ∷ []) in
+        let t = tableBy n (now (x .entry)) (now («final_demand» .entry)) (now (exports .entry)) (now (imports .entry)) (now («value_added» .entry)) (now (production .entry)) (now (adjustment .entry)) in
         report r ≡ verdict (size n ∷ lengths n (now (matrices .entry)) (now (lent .entry)) ∷ tableAmounts t ++ balanceChecks t) []) ⌝ }
 {
     let sizes = check_sizes(n, matrices, lent);

@@ -9,7 +9,7 @@ ghost use mathlib.Core.Bool.{true};
 ghost use mathlib.Core.List.{[], _∷_};
 ghost use mathlib.Core.Path.{_≡_};
 ghost use lib.ListN.{length};
-ghost use Rattle.model.specs.Table.{tableOf};
+ghost use Rattle.model.specs.Table.{tableBy};
 ghost use Rattle.model.specs.Checks.{report, verdict};
 ghost use Rattle.model.specs.Calls.{coefficientsReport, domesticCoefficients, domesticDemands, importCoefficients, inputCoefficients, tableChecks, valueAddedCoefficients};
 
@@ -29,7 +29,7 @@ fn check_called(
     d_len: usize,
     f_len: usize,
 ) -> Answer
-    ensures { λ r. ⌜ report r ≡ verdict (tableChecks (tableOf n (now (x .entry)) (now («final_demand» .entry) ∷ now (exports .entry) ∷ now (imports .entry) ∷ now («value_added» .entry) ∷ now (production .entry) ∷ now (adjustment .entry) ∷ [])) («a_len» ∷ «d_len» ∷ []) («v_len» ∷ «m_len» ∷ «f_len» ∷ [])) [] ⌝ }
+    ensures { λ r. ⌜ report r ≡ verdict (tableChecks (tableBy n (now (x .entry)) (now («final_demand» .entry)) (now (exports .entry)) (now (imports .entry)) (now («value_added» .entry)) (now (production .entry)) (now (adjustment .entry))) («a_len» ∷ «d_len» ∷ []) («v_len» ∷ «m_len» ∷ «f_len» ∷ [])) [] ⌝ }
 {
     let matrices = [x.len(), a_len, d_len];
     let lent = [
@@ -74,7 +74,7 @@ pub fn fill_sheets(
     f: &mut [u64],
 ) -> Answer
     ensures { λ q. ⌜ (
-        let t = tableOf n (now (x .entry)) (now («final_demand» .entry) ∷ now (exports .entry) ∷ now (imports .entry) ∷ now («value_added» .entry) ∷ now (production .entry) ∷ now (adjustment .entry) ∷ []) in
+        let t = tableBy n (now (x .entry)) (now («final_demand» .entry)) (now (exports .entry)) (now (imports .entry)) (now («value_added» .entry)) (now (production .entry)) (now (adjustment .entry)) in
         let r = report q in
         (r ≡ coefficientsReport t (length (now (a .entry)) ∷ length (now (d .entry)) ∷ []) (length (now (v .entry)) ∷ length (now (m .entry)) ∷ length (now (f .entry)) ∷ []))
         × (r .accepted ≡ true →

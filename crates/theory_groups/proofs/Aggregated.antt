@@ -6,7 +6,7 @@ use Prim.Native.Nat.{ℕ, zero, suc, _*_, _/_, _%_, _≤_}
 use native.Mathlib.Nat.{le-refl, le-trans, not-suc-le-zero, le-of-suc-le-suc}
 use lib.ListN.{length, replicate}
 use Rattle.model.specs.Numbers.{cell, at}
-use Rattle.model.specs.Table.{Table, tableOf, column}
+use Rattle.model.specs.Table.{Table, tableBy, column}
 use Rattle.model.specs.Checks.{Report, accepts, verdict, output, tableAmounts, exportsWithin, balanceChecks, columnSums}
 use Rattle.model.specs.Calls.{tableChecks, coefficientsReport, domesticCoefficients}
 use Rattle.model.specs.Aggregation.{groupTotal, groupSizes, mergedFlow, mergedColumn, mergedTable, partitioned, mergedWithin, aggregateChecks, aggregateReport}
@@ -31,7 +31,7 @@ output-none r = split (r .accepted)
 
 module _ (n : ℕ) (x f e m v p a groups : List ℕ) where
   abbrev t : Table
-  t = tableOf n x (f ∷ e ∷ m ∷ v ∷ p ∷ a ∷ [])
+  t = tableBy n x f e m v p a
 
   abbrev u : Table
   u = mergedTable t groups
@@ -113,7 +113,7 @@ module _ (n : ℕ) (x f e m v p a groups : List ℕ) where
       → x′ ≡ output r (length x₀) (u .flows) → f′ ≡ output r (length f₀) (column u 0) → e′ ≡ output r (length e₀) (column u 1)
       → m′ ≡ output r (length m₀) (column u 2) → v′ ≡ output r (length v₀) (column u 3) → p′ ≡ output r (length p₀) (column u 4)
       → a′ ≡ output r (length a₀) (column u 5) → s′ ≡ output r (length s₀) (groupSizes n groups)
-      → Aggregated t groups (tableOf g x₀ (f₀ ∷ e₀ ∷ m₀ ∷ v₀ ∷ p₀ ∷ a₀ ∷ [])) s₀ r (tableOf g x′ (f′ ∷ e′ ∷ m′ ∷ v′ ∷ p′ ∷ a′ ∷ [])) s′
+      → Aggregated t groups (tableBy g x₀ f₀ e₀ m₀ v₀ p₀ a₀) s₀ r (tableBy g x′ f′ e′ m′ v′ p′ a′) s′
   aggregated {x₀} {f₀} {e₀} {m₀} {v₀} {p₀} {a₀} {s₀} {x′} {f′} {e′} {m′} {v′} {p′} {a′} {s′} {r} answer is-x is-f is-e is-m is-v is-p is-a is-s =
       record {
         answer = answer;
@@ -137,7 +137,7 @@ module _ (n : ℕ) (x f e m v p a groups : List ℕ) where
       known : r .accepted ≡ true → Mergeable matrices lent
       known = accepted-known matrices lent answer
 
-      whole : r .accepted ≡ true → tableOf g x′ (f′ ∷ e′ ∷ m′ ∷ v′ ∷ p′ ∷ a′ ∷ []) ≡ u
+      whole : r .accepted ≡ true → tableBy g x′ f′ e′ m′ v′ p′ a′ ≡ u
       whole ok =
           rw (
             is-x ∙ output-given r (length x₀) (u .flows) ok,
@@ -150,8 +150,8 @@ module _ (n : ℕ) (x f e m v p a groups : List ℕ) where
           )
           refl
 
-      columns : (c : ℕ) → column (tableOf g x′ (f′ ∷ e′ ∷ m′ ∷ v′ ∷ p′ ∷ a′ ∷ [])) c
-          ≡ output r (length (column (tableOf g x₀ (f₀ ∷ e₀ ∷ m₀ ∷ v₀ ∷ p₀ ∷ a₀ ∷ [])) c)) (column u c)
+      columns : (c : ℕ) → column (tableBy g x′ f′ e′ m′ v′ p′ a′) c
+          ≡ output r (length (column (tableBy g x₀ f₀ e₀ m₀ v₀ p₀ a₀) c)) (column u c)
       columns zero = is-f
       columns (suc zero) = is-e
       columns (suc (suc zero)) = is-m

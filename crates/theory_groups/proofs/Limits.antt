@@ -9,7 +9,7 @@ use borrow.Author.Tests.{leb-true, le-leb}
 use lib.Dec.{leb}
 use lib.ListN.{length, List·getD-eq-default}
 use Rattle.model.specs.Numbers.{cell, transposed}
-use Rattle.model.specs.Table.{Table, tableOf, column, flow}
+use Rattle.model.specs.Table.{Table, tableBy, column, flow}
 use Rattle.model.specs.Checks.{Report, Check, amountLimit, verdict, tableAmounts, exportsWithin}
 use Rattle.model.specs.Aggregation.{groupTotal, mergedFlow, mergedTable}
 use Rattle.theory.proofs.Sums.{sum-cell}
@@ -38,7 +38,7 @@ module _ (t : Table) (groups : List ℕ) (c : ℕ) where
 
 module _ (n : ℕ) (x f e m v p a groups : List ℕ) (once : Once n groups) (some : 1 ≤ length groups) where
   abbrev t : Table
-  t = tableOf n x (f ∷ e ∷ m ∷ v ∷ p ∷ a ∷ [])
+  t = tableBy n x f e m v p a
 
   abbrev u : Table
   u = mergedTable t groups

@@ -5,7 +5,7 @@ use mathlib.Core.Path.{_≡_, sym, ap, _∙_, subst⁻¹}
 use Prim.Native.Nat.{ℕ, _≤_}
 use lib.ListN.{length}
 use Rattle.model.specs.Numbers.{cell}
-use Rattle.model.specs.Table.{Table, tableOf, inputCoefficient, valueAddedCoefficient, importCoefficient, domesticCoefficient}
+use Rattle.model.specs.Table.{Table, tableBy, inputCoefficient, valueAddedCoefficient, importCoefficient, domesticCoefficient}
 use Rattle.model.specs.Checks.{Report, output, demandLimit}
 use Rattle.model.specs.Calls.{coefficientsReport, inputCoefficients, valueAddedCoefficients, importCoefficients, domesticCoefficients, domesticDemands}
 use Rattle.model.specs.Promises.{AcceptedMatrix}
@@ -18,7 +18,7 @@ use Rattle.theory_tables.proofs.Unadjusted.{unadjusted-report, unadjust
 
 module _ (n : ℕ) (x finalDemand exports imports valueAdded production adjustment : List ℕ) where
   abbrev t : Table
-  t = tableOf n x (finalDemand ∷ exports ∷ imports ∷ valueAdded ∷ production ∷ adjustment ∷ [])
+  t = tableBy n x finalDemand exports imports valueAdded production adjustment
 
   pub derived : {a₀ v₀ m₀ d₀ f₀ a v m d f : List ℕ} {r : Report}
       → r ≡ coefficientsReport t (length a₀ ∷ length d₀ ∷ []) (length v₀ ∷ length m₀ ∷ length f₀ ∷ [])
@@ -59,7 +59,7 @@ module _ (n : ℕ) (x finalDemand exports imports valueAdded production adjustme
       lent = length v₀ ∷ length m₀ ∷ length f₀ ∷ []
 
       table : List ℕ → Table
-      table g = tableOf n x (finalDemand ∷ exports ∷ imports ∷ valueAdded ∷ production ∷ g ∷ [])
+      table g = tableBy n x finalDemand exports imports valueAdded production g
 
       told : r .accepted ≡ true → coefficientsReport t matrices lent .accepted ≡ true
       told ok = sym (ap (λ (q : Report). q .accepted) answer) ∙ ok

@@ -9,7 +9,7 @@ use borrow.Author.Tests.{le-leb, eq-eqb}
 use lib.Dec.{eqb, leb}
 use lib.ListN.{length, replicate, length-replicate}
 use Rattle.model.specs.Numbers.{one, cell, at}
-use Rattle.model.specs.Table.{Table, tableOf, adjustedExports, need, portion, inputCoefficient, valueAddedCoefficient, importCoefficient, domesticCoefficient, domesticDemand}
+use Rattle.model.specs.Table.{Table, tableOf, tableBy, adjustedExports, need, portion, inputCoefficient, valueAddedCoefficient, importCoefficient, domesticCoefficient, domesticDemand}
 use Rattle.model.specs.Checks.{Report, Check, verdict, each, size, lengths, bounded, amountLimit, tableAmounts, exportsWithin, columnBalances, rowBalances, importsCovered, columnSums}
 use Rattle.model.specs.Calls.{coefficientsReport, inputCoefficients, valueAddedCoefficients, importCoefficients, domesticCoefficients, domesticDemands}
 use Rattle.model.specs.Figures.{reportFrom, figuresReport}
@@ -25,7 +25,7 @@ module _ (n : ℕ) (x finalDemand exports imports valueAdded production : List �
 
   -- the table with an adjustment item of 0 in every sector, and as document 01 has it
   abbrev pub adjusted : Table
-  adjusted = tableOf n x (finalDemand ∷ exports ∷ imports ∷ valueAdded ∷ production ∷ zeros ∷ [])
+  adjusted = tableBy n x finalDemand exports imports valueAdded production zeros
 
   abbrev pub plain : Table
   plain = tableOf n x (finalDemand ∷ exports ∷ imports ∷ valueAdded ∷ production ∷ [])

@@ -7,7 +7,7 @@ use native.Mathlib.Nat.{le-refl}
 use borrow.Author.Needs.{needs}
 use lib.Dec.{lit<}
 use lib.ListN.{length}
-use Rattle.model.specs.Table.{Table, tableOf}
+use Rattle.model.specs.Table.{Table, tableBy}
 use Rattle.model.specs.Checks.{Check, verdict, single, size, lengths, tableAmounts, balanceChecks}
 use Rattle.model.specs.Aggregation.{groupLengths, partitioned, mergedWithin, aggregateReport}
 use Rattle.theory.proofs.Lists.{from-one}
@@ -24,7 +24,7 @@ abbrev entry : tie.After-check-lengths → tie.Start
 entry q = q .before .before .before .before .before .before .before .before .before .before .before .before .before
 
 abbrev table : tie.After-check-lengths → Table
-table q = let a = entry q .args in tableOf (a .n) (a .x .now) (a .final-demand .now ∷ a .exports .now ∷ a .imports .now ∷ a .value-added .now ∷ a .production .now ∷ a .adjustment .now ∷ [])
+table q = let a = entry q .args in tableBy (a .n) (a .x .now) (a .final-demand .now) (a .exports .now) (a .imports .now) (a .value-added .now) (a .production .now) (a .adjustment .now)
 
 abbrev groups : tie.After-check-lengths → List ℕ
 groups q = entry q .args .groups .now

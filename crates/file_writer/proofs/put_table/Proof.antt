@@ -6,8 +6,9 @@ use native.Mathlib.Nat.{zero-add}
 use native.Mathlib.Omega.{arith}
 use borrow.Author.Needs.{needs}
 use lib.ListN.{length}
-use Rattle.model.specs.Table.{Table, tableOf, sectorLimit}
+use Rattle.model.specs.Table.{Table, sectorLimit}
 use Rattle.model.specs.File.{kindPlace}
+use Rattle.model.specs.Contracts.{slicesOf, tableFrom}
 use Rattle.model.specs.Writer.{rows, columnsByKind, written}
 use Rattle.theory.proofs.Stores.{Begun, begin, go-on, done, room, room-first}
 use Rattle.theory_archives.proofs.Holding.{Fit, by-kind, by-kind-long}
@@ -18,7 +19,7 @@ use Rattle.file_writer.proofs.put_table.Tie as tie
 abbrev table : tie.Start → Table
 table s =
     let a = s .args in
-    tableOf (a .n) (a .x .now) (a .final-demand .now ∷ a .exports .now ∷ a .imports .now ∷ a .value-added .now ∷ a .production .now ∷ a .adjustment .now ∷ a .rises .now ∷ [])
+    tableFrom (a .n) (slicesOf (a .x .now) (a .final-demand .now) (a .exports .now) (a .imports .now) (a .value-added .now) (a .production .now) (a .adjustment .now) (a .rises .now))
 
 -- its parts after kind 1
 abbrev flows : tie.Start → List ℕ

@@ -3,7 +3,7 @@ use mathlib.Core.List.{List, [], _∷_, _++_}
 use mathlib.Core.Path.{_≡_, _∙_}
 use borrow.Author.Needs.{needs}
 use lib.Dec.{lit<}
-use Rattle.model.specs.Table.{Table, tableOf}
+use Rattle.model.specs.Table.{Table, tableBy}
 use Rattle.model.specs.Checks.{Check, report, verdict, tableAmounts, balanceChecks, exportsWithin, columnBalances, rowBalances, importsCovered}
 use Rattle.theory.proofs.Verdicts.{answered-pass, answered-on, answered-end}
 use Rattle.theory_tables.specs.Tables.{TableAmounts}
@@ -15,7 +15,7 @@ abbrev entry : tie.After-check-amounts → tie.Start
 entry q = q .before .before .before .before .before .before .before .before
 
 abbrev table : tie.After-check-amounts → Table
-table q = let a = entry q .args in tableOf (a .n) (a .x .now) (a .final-demand .now ∷ a .exports .now ∷ a .imports .now ∷ a .value-added .now ∷ a .production .now ∷ a .adjustment .now ∷ [])
+table q = let a = entry q .args in tableBy (a .n) (a .x .now) (a .final-demand .now) (a .exports .now) (a .imports .now) (a .value-added .now) (a .production .now) (a .adjustment .now)
 
 -- question 3, with question 16, with question 4, and with question 5
 abbrev third : tie.After-check-amounts → List Check

@@ -2,7 +2,7 @@
 use mathlib.Core.List.{List, [], _∷_, _++_}
 use mathlib.Core.Path.{_∙_}
 use borrow.Author.Needs.{needs}
-use Rattle.model.specs.Table.{Table, tableOf}
+use Rattle.model.specs.Table.{Table, tableBy}
 use Rattle.model.specs.Checks.{Check, size, lengths, tableAmounts, balanceChecks}
 use Rattle.theory.proofs.Verdicts.{answered-pass, answered-on, answered-end, sized}
 use Rattle.table_checks.proofs.check_table.Statement.{statement}
@@ -12,7 +12,7 @@ abbrev entry : tie.After-check-sizes → tie.Start
 entry q = q .before .before .before .before .before .before .before .before .before .before
 
 abbrev table : tie.After-check-sizes → Table
-table q = let a = entry q .args in tableOf (a .n) (a .x .now) (a .final-demand .now ∷ a .exports .now ∷ a .imports .now ∷ a .value-added .now ∷ a .production .now ∷ a .adjustment .now ∷ [])
+table q = let a = entry q .args in tableBy (a .n) (a .x .now) (a .final-demand .now) (a .exports .now) (a .imports .now) (a .value-added .now) (a .production .now) (a .adjustment .now)
 
 -- questions 1 and 2, and those after them
 abbrev asked : tie.After-check-sizes → List Check

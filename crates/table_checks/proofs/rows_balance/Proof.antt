@@ -1,18 +1,18 @@
 -- `table_checks::rows_balance` meets its contract: every row before i balances. Assumes nothing.
-use mathlib.Core.List.{[], _∷_}
+use mathlib.Core.List.{[]}
 use mathlib.Core.Path.{_≡_, sym, ap, _∙_}
 use Prim.Native.Nat.{ℕ, _+_, _≤_, _-_}
 use native.Mathlib.Omega.{arith}
 use borrow.Author.Tests.{eq-eqb, ne-eqb}
 use Rattle.model.specs.Numbers.{cell}
-use Rattle.model.specs.Table.{Table, tableOf, adjustedExports, need}
+use Rattle.model.specs.Table.{Table, tableBy, adjustedExports, need}
 use Rattle.model.specs.Checks.{amountLimit, rowBalances}
 use Rattle.theory.proofs.Verdicts.{Scan, scan-none, scan-more, scan-failed-each, scan-passed}
 use Rattle.table_checks.proofs.rows_balance.Statement.{statement}
 use Rattle.table_checks.proofs.rows_balance.Tie as tie
 
 abbrev Inv-loop : tie.InvT-loop
-Inv-loop n x demand exports imports production item i₀ i = Scan (rowBalances (tableOf n x (demand ∷ exports ∷ imports ∷ [] ∷ production ∷ item ∷ []))) i
+Inv-loop n x demand exports imports production item i₀ i = Scan (rowBalances (tableBy n x demand exports imports [] production item)) i
 
 abbrev μ-loop : tie.MeasureT-loop
 μ-loop n x demand exports imports production item i₀ i = n - i
@@ -21,7 +21,7 @@ abbrev entry : tie.At-loop Inv-loop μ-loop → tie.Start Inv-loop μ-loop
 entry p = p .before .before .before .before .before .before .before
 
 abbrev table : tie.Start Inv-loop μ-loop → Table
-table s = let a = s .args in tableOf (a .n) (a .x .now) (a .final-demand .now ∷ a .exports .now ∷ a .imports .now ∷ [] ∷ a .production .now ∷ a .adjustment .now ∷ [])
+table s = let a = s .args in tableBy (a .n) (a .x .now) (a .final-demand .now) (a .exports .now) (a .imports .now) [] (a .production .now) (a .adjustment .now)
 
 -- the amounts of the sector are within their limit
 small :

@@ -7,7 +7,7 @@ use borrow.Author.Needs.{needs}
 use lib.Dec.{lit<}
 use lib.ListN.{length}
 use Rattle.model.specs.Numbers.{one, at, cell}
-use Rattle.model.specs.Table.{Table, tableOf, inputCoefficient, valueAddedCoefficient, importCoefficient}
+use Rattle.model.specs.Table.{Table, tableBy, inputCoefficient, valueAddedCoefficient, importCoefficient}
 use Rattle.model.specs.Checks.{Check, report, verdict, columnSums}
 use Rattle.model.specs.Calls.{tableChecks, inputCoefficients, valueAddedCoefficients, importCoefficients, domesticCoefficients, coefficientsReport}
 use Rattle.model.specs.declared.Answer.{Answer}
@@ -22,7 +22,7 @@ entry q = q .before .before .before .before .before .before .before .before .bef
 abbrev table : tie.Start → Table
 table s =
     let a = s .args in
-    tableOf (a .n) (a .x .now) (a .final-demand .now ∷ a .exports .now ∷ a .imports .now ∷ a .value-added .now ∷ a .production .now ∷ a .adjustment .now ∷ [])
+    tableBy (a .n) (a .x .now) (a .final-demand .now) (a .exports .now) (a .imports .now) (a .value-added .now) (a .production .now) (a .adjustment .now)
 
 -- the lengths of the outputs, the questions up to 6, and question 7
 abbrev matrices : tie.Start → List ℕ
