@@ -221,7 +221,7 @@ void tawqeshim_aggregate(
  *
  * Takes domestic coefficients d, n * n cells; a demand f, n cells; and the rounds allowed.
  * Gives the settled production in out, n cells, and in *rounds the first round that changes no sector, counted from 1. Against an exact
- * balance no sector is too high, and all n together are less than 20 * n short. A budget of 1,400 rounds always suffices.
+ * balance no sector is too high, and all n together are less than 20 * n short. A budget of TAWQESHIM_PRODUCTION_BUDGET rounds always suffices.
  * A refusal sets every cell of out to 0. Every cell of work, n cells, is 0 after every call.
  */
 void tawqeshim_production(
@@ -241,7 +241,7 @@ void tawqeshim_production(
  * both alike.
  * Gives in out, n cells, the production settled from after less that settled from before; in *rounds the larger of the two counts, which
  * may be that of the first. No sector falls, each rises by at least what was added to it, and all n together rise by less than
- * 20 * T + 20 * n, with T the total added. Equal demands give 0 in every sector. A budget of 1,400 rounds always suffices.
+ * 20 * T + 20 * n, with T the total added. Equal demands give 0 in every sector. A budget of TAWQESHIM_PRODUCTION_BUDGET rounds always suffices.
  * A refusal sets every cell of out to 0. Every cell of work, n cells, is 0 after every call.
  */
 void tawqeshim_impact(
@@ -259,7 +259,7 @@ void tawqeshim_impact(
  *
  * Takes domestic coefficients d, n * n cells; direct rises w, n cells; and the rounds allowed.
  * Gives the settled rises in out, n cells, and their count of rounds. Against an exact balance no rise is above it, and each is less than
- * 20 millionths below. A budget of 1,400 rounds always suffices.
+ * 20 millionths below. A budget of TAWQESHIM_PRICE_BUDGET rounds always suffices.
  * A refusal sets every cell of out to 0. Every cell of work, n cells, is 0 after every call.
  */
 void tawqeshim_price(
@@ -315,7 +315,7 @@ void tawqeshim_induced(
  * Takes domestic coefficients d, n * n cells, and the rounds allowed for each column.
  * Gives in sheet, n * n cells, the inverse, whose column j is the production settled from a demand of one in sector j; in power and
  * sensitivity, n cells each, each column sum and each row sum against their mean, in millionths; in *rounds the largest count of a column.
- * A budget of 1,400 rounds always suffices.
+ * A budget of TAWQESHIM_PRICE_BUDGET rounds always suffices.
  * A refusal sets every cell of sheet, power and sensitivity to 0.
  */
 void tawqeshim_inverse(

@@ -302,9 +302,9 @@ impactRows =
     ∷ impactOf 2 d f f 4294967295 ⊳ (accepts (9 ∷ []) leaving noRise)
     ∷ impactOf 2 d (0 ∷ 0 ∷ []) (0 ∷ 0 ∷ []) 0 ⊳ (refuses 1 9 0 leaving noRise)
     -- the lower demand takes more rounds, and counts
-    ∷ productionOf 2 uneven (41 ∷ 24 ∷ []) 1400 ⊳ (accepts (9 ∷ []) leaving ((86 ∷ 58 ∷ []) ∷ []))
-    ∷ productionOf 2 uneven (42 ∷ 24 ∷ []) 1400 ⊳ (accepts (8 ∷ []) leaving ((87 ∷ 58 ∷ []) ∷ []))
-    ∷ impactOf 2 uneven (41 ∷ 24 ∷ []) (42 ∷ 24 ∷ []) 1400 ⊳ (accepts (9 ∷ []) leaving ((1 ∷ 0 ∷ []) ∷ []))
+    ∷ productionOf 2 uneven (41 ∷ 24 ∷ []) productionBudget ⊳ (accepts (9 ∷ []) leaving ((86 ∷ 58 ∷ []) ∷ []))
+    ∷ productionOf 2 uneven (42 ∷ 24 ∷ []) productionBudget ⊳ (accepts (8 ∷ []) leaving ((87 ∷ 58 ∷ []) ∷ []))
+    ∷ impactOf 2 uneven (41 ∷ 24 ∷ []) (42 ∷ 24 ∷ []) productionBudget ⊳ (accepts (9 ∷ []) leaving ((1 ∷ 0 ∷ []) ∷ []))
     -- 17 at the first sector that falls, also where no round is allowed
     ∷ impactOf 2 d f (626 ∷ 1279 ∷ []) 0 ⊳ (refuses 1 17 1 leaving noRise)
     -- 8 of the first demand, then of the second, then 17; the place is the sector for both

@@ -45,9 +45,12 @@ pub const ADJUSTMENT: usize = RISES + SECTORS;
 // The bytes of the longest table file (`fileLimit`).
 pub const FILE: usize = 2 + (SHEET * 7 + COLUMNS * SECTORS * 6) + 1;
 
-// The printed page: the rounds that the program allows, and the bytes that hold every page (`pageBudget`, `pageLimit`).
-pub const BUDGET: u32 = 1400;
+// The rounds that always suffice: of productions, which the program allows, and of prices and inverse columns (`productionBudget`, `priceBudget`).
+pub const PRODUCTION_BUDGET: u32 = 1400;
 
+pub const PRICE_BUDGET: u32 = 1400;
+
+// The bytes that hold every printed page (`pageLimit`).
 pub const PAGE: usize = 39 + SECTORS * 70 + 12;
 
 // A call without a count: accepted, or the number and the place of the first check that fails.

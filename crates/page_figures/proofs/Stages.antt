@@ -8,7 +8,7 @@ use Rattle.model.specs.Checks.{Report, accepts, refuses}
 use Rattle.model.specs.Calls.{inputCoefficients, valueAddedCoefficients, importCoefficients, domesticCoefficients, domesticDemands}
 use Rattle.model.specs.Figures.{figuresReport}
 use Rattle.page_sheets.specs.Sheets.{sheetsReport, Sheets}
-use Rattle.page_production.specs.Stages.{Produced}
+use Rattle.page_production.specs.Stages.{ProductionStage}
 use Rattle.page_figures.specs.Stages.{Figures}
 
 module _ (t : Table) {s : Report} {a v m d f : List ℕ} (w : Sheets t s a v m d f) where
@@ -19,7 +19,7 @@ module _ (t : Table) {s : Report} {a v m d f : List ℕ} (w : Sheets t s a v m d
       let no : false ≡ true → ⊥ = false≢true in
       record { told = rw said refl; demand = λ h. absurd (no h); production = λ h. absurd (no h); value = λ h. absurd (no h); imports = λ h. absurd (no h) }
 
-  pub figures-on : {r : Report} {F y value imports : List ℕ} → s ≡ accepts [] → F ≡ finalDemand t → Produced (t .sectors) a m v F d f r y value imports
+  pub figures-on : {r : Report} {F y value imports : List ℕ} → s ≡ accepts [] → F ≡ finalDemand t → ProductionStage (t .sectors) a m v F d f r y value imports
       → Figures t r f y value imports
   unfolding figuresReport
   figures-on {r} {F} {y} {value} {imports} g same p =
@@ -37,5 +37,5 @@ module _ (t : Table) {s : Report} {a v m d f : List ℕ} (w : Sheets t s a v m d
       yes : s .accepted ≡ true
       yes = ap (λ (r : Report). r .accepted) g
 
-      q : Produced (t .sectors) (inputCoefficients t) (importCoefficients t) (valueAddedCoefficients t) (finalDemand t) (domesticCoefficients t) (domesticDemands t) r y value imports
+      q : ProductionStage (t .sectors) (inputCoefficients t) (importCoefficients t) (valueAddedCoefficients t) (finalDemand t) (domesticCoefficients t) (domesticDemands t) r y value imports
       q = rw (w .inputs yes, w .values yes, w .imports yes, w .domestic yes, w .demand yes, same) at p

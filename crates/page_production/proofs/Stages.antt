@@ -12,7 +12,7 @@ use Rattle.model.specs.Checks.{Report, accepts, refuses, output}
 use Rattle.model.specs.Calls.{productionReport, inducedReport}
 use Rattle.model.specs.Figures.{pageBudget}
 use Rattle.theory.proofs.Verdicts.{output-given}
-use Rattle.page_production.specs.Stages.{Induced, Produced}
+use Rattle.page_production.specs.Stages.{InducedStage, ProductionStage}
 
 -- the first n cells of an array
 pub part : (n : ℕ) (l : List ℕ) → n ≤ length l → length (take (n - 0) l) ≡ n
@@ -26,14 +26,14 @@ module _ (n : ℕ) (a m v F y : List ℕ) (k : ℕ) {b c : ℕ} (long : b ≡ n)
   lent = rw (long, long′) refl
 
   pub induced-stop : {s : Report} {q p : ℕ} {value imports : List ℕ} → s ≡ refuses 0 q p → s ≡ inducedReport n a m v F y (b ∷ c ∷ [])
-      → Induced n a m v F y k (refuses 1 q p) value imports
+      → InducedStage n a m v F y k (refuses 1 q p) value imports
   induced-stop {s} {q} {p} g e =
       let said : inducedReport n a m v F y (n ∷ n ∷ []) ≡ refuses 0 q p = sym (e ∙ lent) ∙ g in
       record { told = rw said refl; value = λ h. absurd (false≢true h); imports = λ h. absurd (false≢true h) }
 
   pub induced-on : {s : Report} {value imports : List ℕ} → s ≡ accepts [] → s ≡ inducedReport n a m v F y (b ∷ c ∷ [])
       → value ≡ output s b (inducedValueAdded n v y) → imports ≡ output s c (inducedImports n (at n a) m F y)
-      → Induced n a m v F y k (accepts (k ∷ [])) value imports
+      → InducedStage n a m v F y k (accepts (k ∷ [])) value imports
   induced-on {s} g e ev ei =
       let said : inducedReport n a m v F y (n ∷ n ∷ []) ≡ accepts [] = sym (e ∙ lent) ∙ g in
       let yes = ap (λ (r : Report). r .accepted) g in
@@ -49,14 +49,14 @@ module _ (n : ℕ) (a m v F d f : List ℕ) {b c : ℕ} (long : b ≡ n) (long�
   asked = rw (long, long′) refl
 
   pub production-stop : {s : Report} {q p : ℕ} {y value imports : List ℕ} → s ≡ refuses 1 q p → s ≡ productionReport n d f pageBudget (b ∷ c ∷ [])
-      → Produced n a m v F d f (refuses 1 q p) y value imports
+      → ProductionStage n a m v F d f (refuses 1 q p) y value imports
   production-stop {s} {q} {p} g e =
       let said : productionReport n d f pageBudget (n ∷ n ∷ []) ≡ refuses 1 q p = sym (e ∙ asked) ∙ g in
       record { told = rw said refl; production = λ h. absurd (false≢true h); value = λ h. absurd (false≢true h); imports = λ h. absurd (false≢true h) }
 
   pub production-on : {s r : Report} {k : ℕ} {y value imports : List ℕ} → s ≡ accepts (k ∷ []) → s ≡ productionReport n d f pageBudget (b ∷ c ∷ [])
-      → y ≡ output s b (settled n (at n d) f pageBudget) → Induced n a m v F y k r value imports
-      → Produced n a m v F d f r y value imports
+      → y ≡ output s b (settled n (at n d) f pageBudget) → InducedStage n a m v F y k r value imports
+      → ProductionStage n a m v F d f r y value imports
   production-on {s} {r} {k} {y} g e ey i =
       let said : productionReport n d f pageBudget (n ∷ n ∷ []) ≡ accepts (k ∷ []) = sym (e ∙ asked) ∙ g in
       let made : y ≡ settled n (at n d) f pageBudget = ey ∙ output-given s b (settled n (at n d) f pageBudget) (ap (λ (r : Report). r .accepted) g) in

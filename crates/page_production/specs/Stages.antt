@@ -10,7 +10,7 @@ use Rattle.model.specs.Calls.{productionReport, inducedReport}
 use Rattle.model.specs.Figures.{pageBudget, firstRefusal}
 
 -- production y of a demand f, and what it induces: value added b and imports i
-pub record Produced (n : ℕ) (a m v F d f : Cells) (r : Report) (y b i : Cells) : Type 0 where
+pub record ProductionStage (n : ℕ) (a m v F d f : Cells) (r : Report) (y b i : Cells) : Type 0 where
   pub told :
       let settling = productionReport n d f pageBudget (n ∷ n ∷ []) in
       let inducing = inducedReport n a m v F (settled n (at n d) f pageBudget) (n ∷ n ∷ []) in
@@ -20,7 +20,7 @@ pub record Produced (n : ℕ) (a m v F d f : Cells) (r : Report) (y b i : Cells)
   pub imports : r .accepted ≡ true → i ≡ inducedImports n (at n a) m F (settled n (at n d) f pageBudget)
 
 -- what it induces by itself, of a production y that took k rounds
-pub record Induced (n : ℕ) (a m v F y : Cells) (k : ℕ) (r : Report) (b i : Cells) : Type 0 where
+pub record InducedStage (n : ℕ) (a m v F y : Cells) (k : ℕ) (r : Report) (b i : Cells) : Type 0 where
   pub told : r ≡ firstRefusal (inducedReport n a m v F y (n ∷ n ∷ []) ∷ []) (k ∷ [])
   pub value : r .accepted ≡ true → b ≡ inducedValueAdded n v y
   pub imports : r .accepted ≡ true → i ≡ inducedImports n (at n a) m F y

@@ -13,7 +13,7 @@ ghost use Rattle.theory_rounds.specs.Search.{Searched, Settleable, Settlement};
 ghost use Rattle.settle_sums.specs.Sums.{Carried};
 
 // The settling loop along the rows of d: rounds from the start, which `out` holds, until one changes no sector. Before the first
-// round the sums are 0, and the whole start counts as a rise. The count that it returns with the amounts is the least settling index, and is
+// round the sums are 0, and the whole start counts as an increment. The count that it returns with the amounts is the least settling index, and is
 // at most the budget; without one it refuses with 9.
 fn run_turns(
     n: usize,
@@ -21,16 +21,16 @@ fn run_turns(
     start: &[u64],
     budget: u32,
     out: &mut [u64],
-    rises: &mut [u64],
+    increments: &mut [u64],
     sums: &mut [u64],
 ) -> Outcome
-    requires { ⌜ Settleable n (now d) (now start) × (now out ≡ now start) × (now rises ≡ now start) × Carried n (now d) (now rises) (now sums) (now out) ⌝ }
+    requires { ⌜ Settleable n (now d) (now start) × (now out ≡ now start) × (now increments ≡ now start) × Carried n (now d) (now increments) (now sums) (now out) ⌝ }
     ensures { λ r. ⌜ Searched n (at n (now (d .entry))) (now (start .entry)) budget (reportRounds r) (now (out .exit)) ⌝ }
 {
     let mut narrow = true;
     let mut done: u32 = 0;
     while done < budget {
-        let moved = turn(n, d, narrow, start, out, rises, sums);
+        let moved = turn(n, d, narrow, start, out, increments, sums);
         let count = done + 1;
         if moved == 0 {
             return Outcome::Settled { rounds: count };

@@ -1,4 +1,4 @@
--- What `or` says of the rises that it takes in. Assumes nothing.
+-- What `or` says of the increments that it takes in. Assumes nothing.
 use mathlib.Core.Bool.{Bool, true, false, _&&_}
 use mathlib.Core.Path.{_≡_, refl, ap, subst}
 use Prim.Native.Nat.{ℕ, _-_, _≤_}
@@ -22,9 +22,9 @@ or-none a b = split (eqb a 0) refl
     split true e = ap (λ (x : ℕ). eqb (bitOr x b) 0) (eqb-true a 0 e)
     split false e = ne-eqb (bitOr a b) 0 (λ z. eqb-false a 0 e (omega (arith, z, le-or-left a b)))
 
--- a rise is 0 where the amount is the same
-pub rise-none : (a o : ℕ) → o ≤ a → eqb (a - o) 0 ≡ eqb a o
-rise-none a o h = split (eqb a o) refl
+-- an increment is 0 where the amount is the same
+pub increment-none : (a o : ℕ) → o ≤ a → eqb (a - o) 0 ≡ eqb a o
+increment-none a o h = split (eqb a o) refl
   where
     split : (t : Bool) → eqb a o ≡ t → eqb (a - o) 0 ≡ t
     split true e = eq-eqb (a - o) 0 (omega (arith, eqb-true a o e))

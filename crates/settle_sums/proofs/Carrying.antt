@@ -1,4 +1,4 @@
--- One round from carried sums: with the rises they become those of the amounts, what industry takes follows from them, and with the new rises
+-- One round from carried sums: with the increments they become those of the amounts, what industry takes follows from them, and with the new increments
 -- they are carried on. Assumes nothing.
 use mathlib.Core.List.{List}
 use mathlib.Core.Path.{_≡_, ap, sym, subst⁻¹, _∙_}
@@ -14,7 +14,7 @@ use Rattle.settle_sums.specs.Sums.{sumCells, HasSum, taken, raised, Fits
 use Rattle.theory.proofs.Lists.{Agree, cell-tabulate}
 use Rattle.theory_rounds.proofs.Rounds.{weighted-add, weighted-cong}
 
--- before the first round the sums are 0, and all of the start is rise
+-- before the first round the sums are 0, and all of the start is increment
 pub carried-start : (n : ℕ) (d s : List ℕ) → n ≤ sectorLimit → Carried n d s (replicate sumCells 0) s
 carried-start n d s few =
     record {
@@ -23,14 +23,14 @@ carried-start n d s few =
     }
 
 module _ {n : ℕ} {d : List ℕ} where
-  module _ {rises sums y : List ℕ} (κ : Carried n d rises sums y) where
+  module _ {increments sums y : List ℕ} (κ : Carried n d increments sums y) where
     -- no addition wraps where no sum of the amounts is over the limit
-    pub carried-fits : ((i : ℕ) → i < n → weighted n (at n d) (cell y) i ≤ sumLimit) → Fits n d rises sums
+    pub carried-fits : ((i : ℕ) → i < n → weighted n (at n d) (cell y) i ≤ sumLimit) → Fits n d increments sums
     carried-fits small =
         record { room = κ .room; within = λ i h. subst⁻¹ (λ (w : ℕ). w ≤ sumLimit) (κ .sum i h) (small i h) }
 
-    -- once the rises are added the sums are those of the amounts
-    pub carried-added : (t : List ℕ) → length t ≡ length sums → Agree t n (raised n d rises sums) → SumsOf n d t y
+    -- once the increments are added the sums are those of the amounts
+    pub carried-added : (t : List ℕ) → length t ≡ length sums → Agree t n (raised n d increments sums) → SumsOf n d t y
     carried-added t e added =
         record { room = subst⁻¹ (λ (k : ℕ). n ≤ k) e (κ .room); sum = λ i h. added i h ∙ κ .sum i h }
 

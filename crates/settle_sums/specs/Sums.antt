@@ -21,24 +21,24 @@ HasSum sums i = i < length sums
 unfoldable pub taken : (sums : Cells) (i : ℕ) → ℕ
 taken sums i = cell sums i / one
 
--- the sum of row i, and what the rises add to it
-abbrev pub raised : (n : ℕ) (d rises sums : Cells) (i : ℕ) → ℕ
-raised n d rises sums i = cell sums i + weighted n (at n d) (cell rises) i
+-- the sum of row i, and what the increments add to it
+abbrev pub raised : (n : ℕ) (d increments sums : Cells) (i : ℕ) → ℕ
+raised n d increments sums i = cell sums i + weighted n (at n d) (cell increments) i
 
--- what the rises add to the sums stays within their limit
-pub record Fits (n : ℕ) (d rises sums : Cells) : Type 0 where
+-- what the increments add to the sums stays within their limit
+pub record Fits (n : ℕ) (d increments sums : Cells) : Type 0 where
   pub room : n ≤ length sums
-  pub within : (i : ℕ) → i < n → raised n d rises sums i ≤ sumLimit
+  pub within : (i : ℕ) → i < n → raised n d increments sums i ≤ sumLimit
 
 -- the sums are those of the amounts y
 pub record SumsOf (n : ℕ) (d sums y : Cells) : Type 0 where
   pub room : n ≤ length sums
   pub sum : (i : ℕ) → i < n → cell sums i ≡ weighted n (at n d) (cell y) i
 
--- and with what the rises since then add they are
-pub record Carried (n : ℕ) (d rises sums y : Cells) : Type 0 where
+-- and with what the increments since then add they are
+pub record Carried (n : ℕ) (d increments sums y : Cells) : Type 0 where
   pub room : n ≤ length sums
-  pub sum : (i : ℕ) → i < n → raised n d rises sums i ≡ weighted n (at n d) (cell y) i
+  pub sum : (i : ℕ) → i < n → raised n d increments sums i ≡ weighted n (at n d) (cell y) i
 
 -- k cells of l from cell i on are those of f, and the others those of m
 abbrev pub Written : Cells → (i k : ℕ) → (ℕ → ℕ) → Cells → Type 0

@@ -1,6 +1,8 @@
-// Runs the calls that settle on slow sheets, with 1,400 rounds, with just enough and with one fewer, and prints each answer.
+// Runs the calls that settle on slow sheets, with the rounds that always suffice, with just enough and with one fewer, and prints each answer.
 use impact::impact;
 use inverse::inverse;
+use model::PRICE_BUDGET;
+use model::PRODUCTION_BUDGET;
 use production::price;
 use production::production;
 use test_show::show_end;
@@ -82,15 +84,15 @@ fn invert(name: &[u8], budget: u32) {
 }
 
 fn main() {
-    produce(b"production", 1400);
+    produce(b"production", PRODUCTION_BUDGET);
     produce(b"production least budget", 1189);
     produce(b"production one round short", 1188);
-    rise(b"price", 1400);
+    rise(b"price", PRICE_BUDGET);
     rise(b"price least budget", 1175);
     rise(b"price one round short", 1174);
-    compare(b"scheme", 1400);
+    compare(b"scheme", PRODUCTION_BUDGET);
     compare(b"scheme one round short", 1188);
-    invert(b"inverse", 1400);
+    invert(b"inverse", PRICE_BUDGET);
     invert(b"inverse least budget", 256);
     invert(b"inverse one round short", 255);
 }

@@ -1,6 +1,7 @@
 // Runs `impact` on worked cases and on their neighbours, and prints each answer with every output and work cell. Each slice that is lent holds 7 in
 // every cell before the call.
 use impact::impact;
+use model::PRODUCTION_BUDGET;
 use production::production;
 use test_show::show_outcome;
 use test_show::show_slices;
@@ -30,7 +31,7 @@ fn produce(name: &[u8], d: [u64; 4], f: [u64; 2]) {
     let mut out = [7u64; 2];
     let mut work = [7u64; 2];
     show_word(name);
-    show_outcome(production(2, &d, &f, 1400, &mut out, &mut work));
+    show_outcome(production(2, &d, &f, PRODUCTION_BUDGET, &mut out, &mut work));
     show_slices(&out, &work);
 }
 
@@ -44,7 +45,7 @@ fn compare_forty(name: &[u8], d: u64, before: u64, after: u64) {
         &[d; 1600],
         &[before; 40],
         &[after; 40],
-        1400,
+        PRODUCTION_BUDGET,
         &mut out,
         &mut work,
     ));
@@ -52,7 +53,7 @@ fn compare_forty(name: &[u8], d: u64, before: u64, after: u64) {
 }
 
 fn schemes() {
-    compare(b"scheme", D, [625, 1280], [635, 1280], 1400);
+    compare(b"scheme", D, [625, 1280], [635, 1280], PRODUCTION_BUDGET);
     compare(b"scheme least budget", D, [625, 1280], [635, 1280], 10);
     compare(b"second not settled", D, [625, 1280], [635, 1280], 9);
     compare(b"neither settled", D, [625, 1280], [635, 1280], 8);
@@ -64,7 +65,13 @@ fn schemes() {
 fn uneven_schemes() {
     produce(b"lower demand", UNEVEN, [41, 24]);
     produce(b"higher demand", UNEVEN, [42, 24]);
-    compare(b"lower takes longer", UNEVEN, [41, 24], [42, 24], 1400);
+    compare(
+        b"lower takes longer",
+        UNEVEN,
+        [41, 24],
+        [42, 24],
+        PRODUCTION_BUDGET,
+    );
     compare(b"first not settled", UNEVEN, [41, 24], [42, 24], 8);
 }
 

@@ -3,6 +3,7 @@
 use induced::induced;
 use inverse::inverse;
 use inverse::row;
+use model::PRICE_BUDGET;
 use test_show::show_answer;
 use test_show::show_end;
 use test_show::show_first;
@@ -79,8 +80,8 @@ fn invert_one(name: &[u8], d: u64, budget: u32) {
 }
 
 fn inverses() {
-    invert_one(b"P12", 500000, 1400);
-    invert(b"inverse", 2, [75000, 150000, 240000, 240000], 1400);
+    invert_one(b"P12", 500000, PRICE_BUDGET);
+    invert(b"inverse", 2, [75000, 150000, 240000, 240000], PRICE_BUDGET);
     invert(b"first column short", 2, [900000, 0, 0, 0], 20);
 }
 

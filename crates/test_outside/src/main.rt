@@ -4,6 +4,8 @@ use coefficients::coefficients;
 use implied::implied_demand;
 use induced::induced;
 use inverse::inverse;
+use model::PRICE_BUDGET;
+use model::PRODUCTION_BUDGET;
 use production::production;
 use shares::portion_of;
 use shares::share_of;
@@ -64,7 +66,14 @@ fn invert(d: [u64; 9]) {
     let mut power = [7u64; 3];
     let mut sensitivity = [7u64; 3];
     show_word(b"inverse");
-    show_outcome(inverse(3, &d, 1400, &mut sheet, &mut power, &mut sensitivity));
+    show_outcome(inverse(
+        3,
+        &d,
+        PRICE_BUDGET,
+        &mut sheet,
+        &mut power,
+        &mut sensitivity,
+    ));
     show_three(&sheet, &power, &sensitivity);
 }
 
@@ -72,7 +81,7 @@ fn invert(d: [u64; 9]) {
 fn produce(d: [u64; 9], f: [u64; 3]) -> [u64; 3] {
     let mut y = [7u64; 3];
     let mut work = [7u64; 3];
-    show_outcome(production(3, &d, &f, 1400, &mut y, &mut work));
+    show_outcome(production(3, &d, &f, PRODUCTION_BUDGET, &mut y, &mut work));
     y
 }
 

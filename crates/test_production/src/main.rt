@@ -1,6 +1,8 @@
 // Runs the calls on the worked cases of document 01 and on their neighbours, and prints each answer with every output and work cell. Each
 // slice that is lent holds 7 in every cell before the call.
 use implied::implied_demand;
+use model::PRICE_BUDGET;
+use model::PRODUCTION_BUDGET;
 use production::price;
 use production::production;
 use test_show::show_answer;
@@ -95,13 +97,13 @@ fn round_trip(d: &[u64], f: &[u64]) {
     let mut y = [7u64; 2];
     let mut work = [7u64; 2];
     let mut back = [7u64; 2];
-    show_outcome(production(2, d, f, 1400, &mut y, &mut work));
+    show_outcome(production(2, d, f, PRODUCTION_BUDGET, &mut y, &mut work));
     show_answer(implied_demand(2, d, &y, &mut back));
     show_slices(&y, &back);
 }
 
 fn budgets() {
-    produce_worked(b"P2", 2, 625, 1280, 1400);
+    produce_worked(b"P2", 2, 625, 1280, PRODUCTION_BUDGET);
     produce_worked(b"P2 least budget", 2, 625, 1280, 9);
     produce_worked(b"P2 largest budget", 2, 625, 1280, 4294967295);
     produce_worked(b"P3", 2, 625, 1280, 8);
@@ -114,7 +116,7 @@ fn implied_cases() {
 }
 
 fn rises() {
-    rise(b"P7", 10000, 0, 1400);
+    rise(b"P7", 10000, 0, PRICE_BUDGET);
     rise(b"P7 one round short", 10000, 0, 9);
     produce_one(b"P8", 950000, 1, 1);
     produce_one(b"P9", 950001, 1, 1);
@@ -124,7 +126,7 @@ fn neighbours() {
     produce_worked(b"P10", 2, 0, 0, 1);
     produce_worked(b"P11 none", 0, 625, 1280, 9);
     produce_worked(b"P11 forty-one", 41, 625, 1280, 9);
-    produce_one(b"P12", 500000, 1000000, 1400);
+    produce_one(b"P12", 500000, 1000000, PRODUCTION_BUDGET);
 }
 
 fn forward_and_back() {
@@ -159,7 +161,7 @@ fn limits() {
         2,
         [950000, 0, 0, 950000],
         [1, 2000000000],
-        1400,
+        PRODUCTION_BUDGET,
     );
     produce(b"second column over", 2, [950000, 1, 0, 950000], [1, 1], 9);
 }
@@ -167,8 +169,8 @@ fn limits() {
 fn demand_limits() {
     produce_worked(b"demand over", 2, 2000000000, 2000000001, 9);
     produce(b"7 before 8", 2, [950001, 0, 0, 0], [2000000001, 0], 9);
-    produce_forty(b"largest", 23750, 2000000000, 1400);
-    rise(b"rise at the limit", 1000000000, 0, 1400);
+    produce_forty(b"largest", 23750, 2000000000, PRODUCTION_BUDGET);
+    rise(b"rise at the limit", 1000000000, 0, PRICE_BUDGET);
     rise(b"rise over", 0, 1000000001, 9);
 }
 

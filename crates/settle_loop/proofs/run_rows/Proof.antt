@@ -1,4 +1,4 @@
--- `settle_loop::run_rows` meets its contract, by that of the loop: at first the sums are 0, and all of the start is rise. Assumes nothing.
+-- `settle_loop::run_rows` meets its contract, by that of the loop: at first the sums are 0, and all of the start is increment. Assumes nothing.
 use borrow.Author.Needs.{needs}
 use Rattle.settle_sums.proofs.Carrying.{carried-start}
 use Rattle.settle_loop.proofs.run_rows.Statement.{statement}

@@ -19,22 +19,22 @@ use Rattle.settle_loop.proofs.run_turns.Statement.{statement}
 use Rattle.settle_loop.proofs.run_turns.Tie as tie
 
 -- what holds before each turn
-record Turned (n : ℕ) (d start : List ℕ) (budget : ℕ) (out₀ rises₀ sums₀ out rises sums : List ℕ) (narrow : Bool) (done : ℕ) : Type 0 where
+record Turned (n : ℕ) (d start : List ℕ) (budget : ℕ) (out₀ increments₀ sums₀ out increments sums : List ℕ) (narrow : Bool) (done : ℕ) : Type 0 where
   within : done ≤ budget
   outs : length out ≡ length out₀
-  raised : length rises ≡ length rises₀
+  raised : length increments ≡ length increments₀
   summed : length sums ≡ length sums₀
   amounts : out ≡ rounds n (at n d) start done
   changed : All (changes n (at n d) start) (done + 1)
-  carried : Carried n d rises sums out
-  slim : narrow ≡ true → Narrow rises
+  carried : Carried n d increments sums out
+  slim : narrow ≡ true → Narrow increments
 
 abbrev Inv-loop : tie.InvT-loop
-Inv-loop n d start budget out₀ rises₀ sums₀ narrow₀ done₀ out rises sums narrow done =
-    Turned n d start budget out₀ rises₀ sums₀ out rises sums narrow done
+Inv-loop n d start budget out₀ increments₀ sums₀ narrow₀ done₀ out increments sums narrow done =
+    Turned n d start budget out₀ increments₀ sums₀ out increments sums narrow done
 
 abbrev μ-loop : tie.MeasureT-loop
-μ-loop n d start budget out₀ rises₀ sums₀ narrow₀ done₀ out rises sums narrow done = budget - done
+μ-loop n d start budget out₀ increments₀ sums₀ narrow₀ done₀ out increments sums narrow done = budget - done
 
 abbrev entry : tie.At-loop Inv-loop μ-loop → tie.Start Inv-loop μ-loop
 entry p = p .before .before .before .before .before .before
@@ -73,11 +73,11 @@ loop-holds c =
       slim = λ t. subst⁻¹ Narrow (s .pre .2) (λ k h. omega (arith, s .pre .0 .small k (subst (λ (x : ℕ). k < x) (s .pre .0 .sectors) h)));
     }
 
--- the rises and the outputs of a turn have a cell a sector
+-- the increments and the outputs of a turn have a cell a sector
 sectors :
     (p : tie.At-loop Inv-loop μ-loop) →
     let n = entry p .args .n in
-    (length (p .loop .out) ≡ n) × (length (p .loop .rises) ≡ n)
+    (length (p .loop .out) ≡ n) × (length (p .loop .increments) ≡ n)
 sectors p =
     let s = entry p in
     (p .loop .inv .outs ∙ ap length (s .pre .1) ∙ s .pre .0 .sectors, p .loop .inv .raised ∙ ap length (s .pre .2) ∙ s .pre .0 .sectors)
@@ -103,7 +103,7 @@ lengths :
     (q : tie.After-turn Inv-loop μ-loop) →
     let a = entry (head q) .args in
     let l = q .turn .last .1 .1 .1 .1 in
-    (length (l .0) ≡ length (a .out .now)) × (length (l .1 .0) ≡ length (a .rises .now)) × (length (l .1 .1 .0) ≡ length (a .sums .now))
+    (length (l .0) ≡ length (a .out .now)) × (length (l .1 .0) ≡ length (a .increments .now)) × (length (l .1 .1 .0) ≡ length (a .sums .now))
 lengths q =
     let k = q .turn .kept .1 .1 .1 .1 in
     let l = head q .loop in

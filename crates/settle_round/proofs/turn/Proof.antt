@@ -16,39 +16,39 @@ use Rattle.settle_round.specs.Advance.{advanced}
 use Rattle.settle_round.proofs.turn.Statement.{statement}
 use Rattle.settle_round.proofs.turn.Tie as tie
 
-abbrev entry : tie.After-add-rises → tie.Start
+abbrev entry : tie.After-add-increments → tie.Start
 entry q = q .before .before .before .before .before .before .before .before
 
-abbrev sums : tie.After-add-rises → List ℕ
-sums q = q .add-rises .last .1 .1 .1 .1 .0
+abbrev sums : tie.After-add-increments → List ℕ
+sums q = q .add-increments .last .1 .1 .1 .1 .0
 
-abbrev next : tie.After-add-rises → List ℕ
+abbrev next : tie.After-add-increments → List ℕ
 next q = let a = entry q .args in round (a .n) (at (a .n) (a .d .now)) (a .start .now) (a .out .now)
 
 -- the sums are those of the amounts, so the round is what they make of the start
-summed : (q : tie.After-add-rises) → SumsOf (entry q .args .n) (entry q .args .d .now) (sums q) (entry q .args .out .now)
-summed q = q .add-rises .ensures (entry q .args .out .now) (entry q .pre .1 .0 .2)
+summed : (q : tie.After-add-increments) → SumsOf (entry q .args .n) (entry q .args .d .now) (sums q) (entry q .args .out .now)
+summed q = q .add-increments .ensures (entry q .args .out .now) (entry q .pre .1 .0 .2)
 
-made-cell : (q : tie.After-add-rises) (i : ℕ) → i < entry q .args .n → advanced (entry q .args .start .now) (sums q) i ≡ cell (next q) i
+made-cell : (q : tie.After-add-increments) (i : ℕ) → i < entry q .args .n → advanced (entry q .args .start .now) (sums q) i ≡ cell (next q) i
 made-cell q i h =
     let a = entry q .args in
     ap (λ (x : ℕ). cell (a .start .now) i + x) (taken-is (summed q) i h) ∙ sym (round-cell (a .n) (at (a .n) (a .d .now)) (a .start .now) (a .out .now) i h)
 
-made : (q : tie.After-add-rises) → tabulate (entry q .args .n) (advanced (entry q .args .start .now) (sums q)) ≡ next q
+made : (q : tie.After-add-increments) → tabulate (entry q .args .n) (advanced (entry q .args .start .now) (sums q)) ≡ next q
 made q =
     let a = entry q .args in
     sym (tabulated (a .n) (a .n) (advanced (a .start .now) (sums q)) (next q) (length-round (a .n) (at (a .n) (a .d .now)) (a .start .now) (a .out .now))
     (le-refl _) (λ i h. sym (made-cell q i h)))
 
 -- what industry takes of a sector is within its limit
-room : (q : tie.After-add-rises) (i : ℕ) → i < entry q .args .n → taken (sums q) i ≤ productionLimit
+room : (q : tie.After-add-increments) (i : ℕ) → i < entry q .args .n → taken (sums q) i ≤ productionLimit
 room q i h =
     let s = entry q in
     let a = s .args in
     omega (arith, taken-is (summed q) i h, intermediate-within (a .n) (at (a .n) (a .d .now)) (cell (a .out .now)) i, s .pre .1 .1 .1 .0 i h)
 
-add-rises-requires : tie.Need-add-rises-requires
-add-rises-requires c κs =
+add-increments-requires : tie.Need-add-increments-requires
+add-increments-requires c κs =
     let s = c .before .before .before .before .before .before .before in
     ((s .pre .0 .0, s .pre .0 .3), ((s .pre .1 .0 .0, s .pre .1 .0 .1), carried-fits (s .pre .1 .0 .2) (s .pre .1 .1 .1 .0)))
 
@@ -83,4 +83,4 @@ returns c =
     )
 
 pub turn-spec : {M : Type 1} → statement M
-turn-spec = tie.close (tie.spec add-rises-requires advance-requires (λ c. search needs) (λ c. search needs) (λ c. search needs) returns)
+turn-spec = tie.close (tie.spec add-increments-requires advance-requires (λ c. search needs) (λ c. search needs) (λ c. search needs) returns)

@@ -12,18 +12,18 @@ use Rattle.settle_sums.proofs.add_block.Statement.{statement}
 use Rattle.settle_sums.proofs.add_block.Tie as tie
 
 abbrev Inv-loop : tie.InvT-loop
-Inv-loop n d narrow rises i sums₀ j₀ sums j =
-    (j ≤ n) × (length sums ≡ length sums₀) × Written sums i 4 (λ c. cell sums₀ c + sum j (product (at n d) (cell rises) c)) sums₀
+Inv-loop n d narrow increments i sums₀ j₀ sums j =
+    (j ≤ n) × (length sums ≡ length sums₀) × Written sums i 4 (λ c. cell sums₀ c + sum j (product (at n d) (cell increments) c)) sums₀
 
 abbrev μ-loop : tie.MeasureT-loop
-μ-loop n d narrow rises i sums₀ j₀ sums j = n - j
+μ-loop n d narrow increments i sums₀ j₀ sums j = n - j
 
 abbrev entry : tie.At-loop Inv-loop μ-loop → tie.Start Inv-loop μ-loop
 entry p = p .before .before .before .before
 
 -- the products of row c, and its sum with the first j of them
 abbrev terms : tie.At-loop Inv-loop μ-loop → ℕ → ℕ → ℕ
-terms p = let a = entry p .args in product (at (a .n) (a .d .now)) (cell (a .rises .now))
+terms p = let a = entry p .args in product (at (a .n) (a .d .now)) (cell (a .increments .now))
 
 abbrev partly : tie.At-loop Inv-loop μ-loop → ℕ → ℕ → ℕ
 partly p j c = cell (entry p .args .sums .now) c + sum j (terms p c)

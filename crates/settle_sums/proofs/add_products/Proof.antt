@@ -14,14 +14,14 @@ use Rattle.settle_sums.proofs.add_products.Statement.{statement}
 use Rattle.settle_sums.proofs.add_products.Tie as tie
 
 abbrev Inv-loop : tie.InvT-loop
-Inv-loop n d j rise i sums₀ k₀ sums k = (k ≤ 4) × (length sums ≡ length sums₀) × Written sums i k (λ c. cell sums₀ c + at n d c j * rise) sums₀
+Inv-loop n d j increment i sums₀ k₀ sums k = (k ≤ 4) × (length sums ≡ length sums₀) × Written sums i k (λ c. cell sums₀ c + at n d c j * increment) sums₀
 
 abbrev μ-loop : tie.MeasureT-loop
-μ-loop n d j rise i sums₀ k₀ sums k = 4 - k
+μ-loop n d j increment i sums₀ k₀ sums k = 4 - k
 
--- the sums with what the rise adds
+-- the sums with what the increment adds
 abbrev next : tie.At-loop Inv-loop μ-loop → ℕ → ℕ
-next p = let a = p .before .args in λ c. cell (a .sums .now) c + at (a .n) (a .d .now) c (a .j) * a .rise
+next p = let a = p .before .args in λ c. cell (a .sums .now) c + at (a .n) (a .d .now) c (a .j) * a .increment
 
 -- the row of a turn
 abbrev row : tie.In-loop Inv-loop μ-loop → ℕ
@@ -37,17 +37,17 @@ inside q = cell-in _ _ _ (in-matrix q) (q .before .before .pre .0 .2)
 added :
     (q : tie.In-loop Inv-loop μ-loop) →
     let a = q .before .before .args in
-    at (a .n) (a .d .now) (row q) (a .j) % narrowLimit * a .rise ≡ at (a .n) (a .d .now) (row q) (a .j) * a .rise
+    at (a .n) (a .d .now) (row q) (a .j) % narrowLimit * a .increment ≡ at (a .n) (a .d .now) (row q) (a .j) * a .increment
 added q =
     let s = q .before .before in
     let a = s .args in
-    ap (λ (x : ℕ). x * a .rise) (own-remainder (a .n) (a .d .now) (row q) (a .j) (s .pre .0 .0) (s .pre .0 .4) (in-matrix q) (s .pre .0 .2))
+    ap (λ (x : ℕ). x * a .increment) (own-remainder (a .n) (a .d .now) (row q) (a .j) (s .pre .0 .0) (s .pre .0 .4) (in-matrix q) (s .pre .0 .2))
 
 stands :
     (q : tie.In-loop Inv-loop μ-loop) →
     let a = q .before .before .args in
     let x = at (a .n) (a .d .now) (row q) (a .j) in
-    cell (q .before .loop .sums) (row q) + x % narrowLimit * a .rise ≡ next (q .before) (row q)
+    cell (q .before .loop .sums) (row q) + x % narrowLimit * a .increment ≡ next (q .before) (row q)
 stands q = ap₂ _+_ (q .before .loop .inv .2 .2 (row q) (le-refl _)) (added q)
 
 -- both within the limit of a sum

@@ -12,17 +12,17 @@ use Rattle.settle_sums.proofs.add_rest.Statement.{statement}
 use Rattle.settle_sums.proofs.add_rest.Tie as tie
 
 abbrev Inv-loop : tie.InvT-loop
-Inv-loop n d rises i sums₀ k₀ k-end sums k = (k ≤ n - i) × (length sums ≡ length sums₀) × Written sums i k (raised n d rises sums₀) sums₀
+Inv-loop n d increments i sums₀ k₀ k-end sums k = (k ≤ n - i) × (length sums ≡ length sums₀) × Written sums i k (raised n d increments sums₀) sums₀
 
 abbrev μ-loop : tie.MeasureT-loop
-μ-loop n d rises i sums₀ k₀ k-end sums k = n - i - k
+μ-loop n d increments i sums₀ k₀ k-end sums k = n - i - k
 
 abbrev entry : tie.At-loop Inv-loop μ-loop → tie.Start Inv-loop μ-loop
 entry p = p .before .before .before .before
 
--- the sums with what the rises add
+-- the sums with what the increments add
 abbrev next : tie.At-loop Inv-loop μ-loop → ℕ → ℕ
-next p = let a = entry p .args in raised (a .n) (a .d .now) (a .rises .now) (a .sums .now)
+next p = let a = entry p .args in raised (a .n) (a .d .now) (a .increments .now) (a .sums .now)
 
 -- the row of a turn
 abbrev row : tie.In-loop Inv-loop μ-loop → ℕ
