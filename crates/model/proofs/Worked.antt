@@ -199,7 +199,9 @@ questionRows =
     ∷ inducedOf 2 idle (0 ∷ 0 ∷ []) (0 ∷ 1000001 ∷ []) (1000000001 ∷ 0 ∷ []) (1600000000001 ∷ 0 ∷ []) ⊳ (refuses 0 3 7 leaving nothingInduced)
     ∷ inducedOf 2 idle (0 ∷ 0 ∷ []) (0 ∷ 0 ∷ []) (0 ∷ 1000000001 ∷ []) (1600000000001 ∷ 0 ∷ []) ⊳ (refuses 0 3 9 leaving nothingInduced)
     ∷ inducedOf 2 idle (0 ∷ 0 ∷ []) (0 ∷ 0 ∷ []) (0 ∷ 1000000000 ∷ []) (1600000000000 ∷ 1 ∷ []) ⊳ (refuses 0 8 1 leaving nothingInduced)
-    -- of several faults the first is told: 1 before 2, 2 before 7, 7 before 8, 8 before 9 and 10
+    -- of several faults the first is told: 1 before 2, 2 before 3 and 7, 7 before 8, 8 before 9 and 10
+    ∷ coefficientsOf (tableBy 0 (1 ∷ []) [] [] [] [] [] []) ⊳ (refuses 0 1 0 leaving ([] ∷ [] ∷ [] ∷ [] ∷ [] ∷ []))
+    ∷ coefficientsOf (tableBy 1 (1000000001 ∷ []) [] (0 ∷ []) (0 ∷ []) (0 ∷ []) (0 ∷ []) (0 ∷ [])) ⊳ (refuses 0 2 0 leaving ((0 ∷ []) ∷ (0 ∷ []) ∷ (0 ∷ []) ∷ (0 ∷ []) ∷ (0 ∷ []) ∷ []))
     ∷ productionOf 0 idle (0 ∷ []) 0 ⊳ (refuses 1 1 0 leaving ([] ∷ []))
     ∷ productionOf 2 tooMuch (2000000001 ∷ []) 0 ⊳ (refuses 1 2 0 leaving leaves 0 0)
     ∷ productionOf 2 tooMuch (2000000001 ∷ 0 ∷ []) 0 ⊳ (refuses 1 7 1 leaving leaves 0 0)
@@ -212,7 +214,7 @@ questionRows =
 
 -- Theorem, for the reader: every case above is answered as stated
 pub worked-questions : map (λ (r : Row). r .given) questionRows ≡ map (λ (r : Row). r .stated) questionRows
-unfolding questionRows productionReport priceReport impliedReport inducedReport inverseReport intermediate round rounds changes settling settled impliedDemand inducedValueAdded inducedImports unit inverse inverseRounds dispersion
+unfolding questionRows coefficientsReport productionReport priceReport impliedReport inducedReport inverseReport intermediate round rounds changes settling settled impliedDemand inducedValueAdded inducedImports unit inverse inverseRounds dispersion
 worked-questions = refl
 
 -- Theorem, for the reader: a sector's row of a sheet is that stretch of it; and none where the sector, the length or n is wrong
@@ -391,11 +393,21 @@ pub worked-merging : map (λ (r : Row). r .given) mergedRows ≡ map (λ (r : Ro
 unfolding mergedRows aggregateReport groupTotal groupSizes absorption
 worked-merging = refl
 
--- Theorem, for the reader: 2 asks the length of the merged x, g × g, and of each merged column, g
-pub merged-lengths :
-    _≡_ {A = List Report}
-    (aggregateReport threeSectors (5 ∷ 2 ∷ []) (4 ∷ []) (replicate 7 2) ∷ aggregateReport threeSectors (5 ∷ 2 ∷ []) (9 ∷ []) (replicate 7 2)
-    ∷ aggregateReport threeSectors (5 ∷ 2 ∷ []) (4 ∷ []) (replicate 6 2 ++ (3 ∷ [])) ∷ [])
-    (accepts [] ∷ refuses 0 2 0 ∷ refuses 0 2 0 ∷ [])
-unfolding aggregateReport groupTotal absorption
-merged-lengths = refl
+-- ---- question 2 of what is lent
+-- a call with one length too many, in its last matrix and in its last column
+abbrev wrongLengths : List Report
+wrongLengths =
+    coefficientsReport table (4 ∷ 5 ∷ []) (2 ∷ 2 ∷ 2 ∷ []) ∷ coefficientsReport table (4 ∷ 4 ∷ []) (2 ∷ 2 ∷ 3 ∷ [])
+    ∷ aggregateReport threeSectors (5 ∷ 2 ∷ []) (9 ∷ []) (replicate 7 2) ∷ aggregateReport threeSectors (5 ∷ 2 ∷ []) (4 ∷ []) (replicate 6 2 ++ (3 ∷ []))
+    ∷ impliedReport 2 d f (3 ∷ [])
+    ∷ inducedReport 2 idle (0 ∷ 0 ∷ []) (0 ∷ 0 ∷ []) (0 ∷ 0 ∷ []) (0 ∷ 0 ∷ []) (2 ∷ 3 ∷ [])
+    ∷ productionReport 2 d f 9 (2 ∷ 3 ∷ [])
+    ∷ priceReport 2 d f 9 (2 ∷ 3 ∷ [])
+    ∷ impactReport 2 d f f 9 (2 ∷ 3 ∷ [])
+    ∷ inverseReport 2 d 9 (5 ∷ []) (2 ∷ 2 ∷ []) ∷ inverseReport 2 d 9 (4 ∷ []) (2 ∷ 3 ∷ [])
+    ∷ []
+
+-- Theorem, for the reader: each of them is refused by 2, with its count of rounds at 0 where it has one
+pub worked-lengths : wrongLengths ≡ replicate 6 (refuses 0 2 0) ++ replicate 5 (refuses 1 2 0)
+unfolding coefficientsReport aggregateReport impliedReport inducedReport productionReport priceReport impactReport inverseReport absorption inputCoefficient importCoefficient domesticCoefficient domesticCoefficients groupTotal intermediate round rounds changes settling unit inverseRounds impactRounds
+worked-lengths = refl

@@ -171,7 +171,7 @@ rows =
 -- Theorem, for the reader: 2 comes first: 1,600 cells for x, 40 for each of seven columns, and 47 words of marks
 pub worked-called :
     _≡_ {A = List Reading}
-    (called 1600 (replicate 7 40) 47 [] ∷ called 1599 (replicate 7 40) 47 [] ∷ called 1600 (replicate 6 40 ++ (39 ∷ [])) 47 [] ∷ called 1600 (replicate 7 40) 46 [] ∷ [])
+    (called 1600 (replicate 7 40) 47 [] ∷ called 1601 (replicate 7 40) 47 [] ∷ called 1600 (replicate 6 40 ++ (41 ∷ [])) 47 [] ∷ called 1600 (replicate 7 40) 48 [] ∷ [])
     (Reading.refused 15 0 ∷ Reading.refused 2 0 ∷ Reading.refused 2 0 ∷ Reading.refused 2 0 ∷ [])
 unfolding called readingWith
 worked-called = refl
