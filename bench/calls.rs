@@ -1,13 +1,24 @@
 //! The timed calls in Rust, with the checks of the proved ones. Sums of accepted inputs fit 64 bits.
 
-use std::slice::{from_raw_parts, from_raw_parts_mut};
+#[path = "../include/tawqeshim.rs"]
+mod tawqeshim;
 
-const ONE: u64 = 1_000_000;
-const COLUMN: u64 = 950_000;
-const AMOUNT: u64 = 1_000_000_000;
-const DEMAND: u64 = 2_000_000_000;
-const SECTORS: usize = 40;
+use std::slice::{from_raw_parts, from_raw_parts_mut};
+use tawqeshim::{
+    TAWQESHIM_AMOUNT_LIMIT as AMOUNT, TAWQESHIM_COLUMN_LIMIT as COLUMN, TAWQESHIM_DEMAND_LIMIT as DEMAND, TAWQESHIM_ONE as ONE,
+    TAWQESHIM_RISE_LIMIT as RISE, TAWQESHIM_SECTORS as SECTORS,
+};
+
 const COLUMNS: usize = 7;
+
+// Each function for C has the type of the library's, which is not called here.
+const _: () = {
+    let _ = [rust_production, rust_price, tawqeshim::tawqeshim_production, tawqeshim::tawqeshim_price];
+    let _ = [rust_impact, tawqeshim::tawqeshim_impact];
+    let _ = [rust_inverse, tawqeshim::tawqeshim_inverse];
+    let _ = [rust_read_table, tawqeshim::tawqeshim_read_table];
+    let _ = [rust_write_table, tawqeshim::tawqeshim_write_table];
+};
 
 /// The number of the first question answered no, and its place.
 type Refusal = (u8, usize);
@@ -340,7 +351,7 @@ macro_rules! settling {
 }
 
 settling!(rust_production, false, DEMAND);
-settling!(rust_price, true, 1_000_000_000);
+settling!(rust_price, true, RISE);
 
 #[no_mangle]
 pub unsafe extern "C" fn rust_impact(

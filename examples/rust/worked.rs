@@ -2,41 +2,19 @@
 //!
 //! After scripts/shared-library, from the repository's folder:
 //!   rustc --edition 2021 -o target/worked-rust examples/rust/worked.rs -L target -C link-arg='-Wl,-rpath,$ORIGIN' && target/worked-rust
+//! `-L` says where the library is when the program is built, the rest that it is in the program's own folder when it runs.
+
+// The C functions and the constants of the header. Each array is handed over as a pointer, then its length.
+#[path = "../../include/tawqeshim.rs"]
+mod tawqeshim;
 
 use std::process::exit;
-
-// From include/tawqeshim.h: each array is a pointer, then its length.
-#[link(name = "tawqeshim", kind = "dylib")]
-extern "C" {
-    fn tawqeshim_coefficients(
-        n: usize, x: *const u64, x_length: usize, final_demand: *const u64, final_demand_length: usize,
-        exports: *const u64, exports_length: usize, imports: *const u64, imports_length: usize,
-        value_added: *const u64, value_added_length: usize, production: *const u64, production_length: usize,
-        adjustment: *const u64, adjustment_length: usize,
-        a: *mut u64, a_length: usize, v: *mut u64, v_length: usize, m: *mut u64, m_length: usize,
-        d: *mut u64, d_length: usize, f: *mut u64, f_length: usize, number: *mut u8, place: *mut usize,
-    );
-    fn tawqeshim_production(
-        n: usize, d: *const u64, d_length: usize, f: *const u64, f_length: usize, budget: u32,
-        out: *mut u64, out_length: usize, work: *mut u64, work_length: usize,
-        number: *mut u8, place: *mut usize, rounds: *mut u32,
-    );
-    fn tawqeshim_induced(
-        n: usize, a: *const u64, a_length: usize, m: *const u64, m_length: usize, v: *const u64, v_length: usize,
-        final_demand: *const u64, final_demand_length: usize, production: *const u64, production_length: usize,
-        value: *mut u64, value_length: usize, imports: *mut u64, imports_length: usize,
-        number: *mut u8, place: *mut usize,
-    );
-}
-
-// From the header: the number of an accepted call, and the rounds that a page allows.
-const ACCEPTED: u8 = 0;
-const PAGE_BUDGET: u32 = 1400;
+use tawqeshim::{tawqeshim_coefficients, tawqeshim_induced, tawqeshim_production, TAWQESHIM_ACCEPTED, TAWQESHIM_PAGE_BUDGET};
 
 const N: usize = 2;
 
 fn accept(number: u8, place: usize) {
-    if number != ACCEPTED {
+    if number != TAWQESHIM_ACCEPTED {
         println!("refused {number} {place}");
         exit(1);
     }
@@ -64,7 +42,7 @@ fn main() {
     let (mut settled, mut work) = ([0; N], [0; N]);
     unsafe {
         tawqeshim_production(
-            N, d.as_ptr(), N * N, f.as_ptr(), N, PAGE_BUDGET, settled.as_mut_ptr(), N, work.as_mut_ptr(), N,
+            N, d.as_ptr(), N * N, f.as_ptr(), N, TAWQESHIM_PAGE_BUDGET, settled.as_mut_ptr(), N, work.as_mut_ptr(), N,
             &mut number, &mut place, &mut rounds,
         );
     }

@@ -2,9 +2,10 @@
 //! answered twice, by the reference and by the library, and the two outcomes are compared.
 
 use crate::reference::{self, Refusal, FILE_BYTES};
+use crate::tawqeshim::*;
 
 /// The bytes that `tawqeshim_page` asks for.
-pub const PAGE_BYTES: usize = 2_851;
+pub const PAGE_BYTES: usize = TAWQESHIM_PAGE;
 
 #[derive(Clone, Copy, Debug, PartialEq, Eq)]
 pub enum Call {
@@ -231,159 +232,6 @@ pub fn number_seen(case: &Case, outcome: &Outcome) -> u8 {
         }
         _ => outcome.number,
     }
-}
-
-// Every slice is its pointer and its length in elements.
-#[link(name = "tawqeshim", kind = "dylib")]
-extern "C" {
-    fn tawqeshim_coefficients(
-        n: usize,
-        x: *const u64, x_length: usize,
-        final_demand: *const u64, final_demand_length: usize,
-        exports: *const u64, exports_length: usize,
-        imports: *const u64, imports_length: usize,
-        value_added: *const u64, value_added_length: usize,
-        production: *const u64, production_length: usize,
-        adjustment: *const u64, adjustment_length: usize,
-        a: *mut u64, a_length: usize,
-        v: *mut u64, v_length: usize,
-        m: *mut u64, m_length: usize,
-        d: *mut u64, d_length: usize,
-        f: *mut u64, f_length: usize,
-        number: *mut u8,
-        place: *mut usize,
-    );
-    fn tawqeshim_aggregate(
-        n: usize,
-        x: *const u64, x_length: usize,
-        final_demand: *const u64, final_demand_length: usize,
-        exports: *const u64, exports_length: usize,
-        imports: *const u64, imports_length: usize,
-        value_added: *const u64, value_added_length: usize,
-        production: *const u64, production_length: usize,
-        adjustment: *const u64, adjustment_length: usize,
-        groups: *const u64, groups_length: usize,
-        merged_x: *mut u64, merged_x_length: usize,
-        merged_final_demand: *mut u64, merged_final_demand_length: usize,
-        merged_exports: *mut u64, merged_exports_length: usize,
-        merged_imports: *mut u64, merged_imports_length: usize,
-        merged_value_added: *mut u64, merged_value_added_length: usize,
-        merged_production: *mut u64, merged_production_length: usize,
-        merged_adjustment: *mut u64, merged_adjustment_length: usize,
-        sizes: *mut u64, sizes_length: usize,
-        number: *mut u8,
-        place: *mut usize,
-    );
-    fn tawqeshim_production(
-        n: usize,
-        d: *const u64, d_length: usize,
-        f: *const u64, f_length: usize,
-        budget: u32,
-        out: *mut u64, out_length: usize,
-        work: *mut u64, work_length: usize,
-        number: *mut u8,
-        place: *mut usize,
-        rounds: *mut u32,
-    );
-    fn tawqeshim_impact(
-        n: usize,
-        d: *const u64, d_length: usize,
-        before: *const u64, before_length: usize,
-        after: *const u64, after_length: usize,
-        budget: u32,
-        out: *mut u64, out_length: usize,
-        work: *mut u64, work_length: usize,
-        number: *mut u8,
-        place: *mut usize,
-        rounds: *mut u32,
-    );
-    fn tawqeshim_price(
-        n: usize,
-        d: *const u64, d_length: usize,
-        w: *const u64, w_length: usize,
-        budget: u32,
-        out: *mut u64, out_length: usize,
-        work: *mut u64, work_length: usize,
-        number: *mut u8,
-        place: *mut usize,
-        rounds: *mut u32,
-    );
-    fn tawqeshim_implied_demand(
-        n: usize,
-        d: *const u64, d_length: usize,
-        production: *const u64, production_length: usize,
-        out: *mut u64, out_length: usize,
-        number: *mut u8,
-        place: *mut usize,
-    );
-    fn tawqeshim_induced(
-        n: usize,
-        a: *const u64, a_length: usize,
-        m: *const u64, m_length: usize,
-        v: *const u64, v_length: usize,
-        final_demand: *const u64, final_demand_length: usize,
-        production: *const u64, production_length: usize,
-        value: *mut u64, value_length: usize,
-        imports: *mut u64, imports_length: usize,
-        number: *mut u8,
-        place: *mut usize,
-    );
-    fn tawqeshim_inverse(
-        n: usize,
-        d: *const u64, d_length: usize,
-        budget: u32,
-        sheet: *mut u64, sheet_length: usize,
-        power: *mut u64, power_length: usize,
-        sensitivity: *mut u64, sensitivity_length: usize,
-        number: *mut u8,
-        place: *mut usize,
-        rounds: *mut u32,
-    );
-    fn tawqeshim_row(
-        n: usize,
-        sheet: *const u64, sheet_length: usize,
-        sector: usize,
-        start: *mut usize,
-        length: *mut usize,
-    );
-    fn tawqeshim_read_table(
-        file: *const u8, file_length: usize,
-        x: *mut u64, x_length: usize,
-        final_demand: *mut u64, final_demand_length: usize,
-        exports: *mut u64, exports_length: usize,
-        imports: *mut u64, imports_length: usize,
-        value_added: *mut u64, value_added_length: usize,
-        production: *mut u64, production_length: usize,
-        adjustment: *mut u64, adjustment_length: usize,
-        rises: *mut u64, rises_length: usize,
-        marks: *mut u64, marks_length: usize,
-        number: *mut u8,
-        place: *mut usize,
-        sectors: *mut usize,
-        named: *mut usize,
-    );
-    fn tawqeshim_write_table(
-        n: usize,
-        x: *const u64, x_length: usize,
-        final_demand: *const u64, final_demand_length: usize,
-        exports: *const u64, exports_length: usize,
-        imports: *const u64, imports_length: usize,
-        value_added: *const u64, value_added_length: usize,
-        production: *const u64, production_length: usize,
-        adjustment: *const u64, adjustment_length: usize,
-        rises: *const u64, rises_length: usize,
-        file: *mut u8, file_length: usize,
-        number: *mut u8,
-        place: *mut usize,
-        length: *mut usize,
-    );
-    fn tawqeshim_page(
-        file: *const u8, file_length: usize,
-        out: *mut u8, out_length: usize,
-        number: *mut u8,
-        place: *mut usize,
-        length: *mut usize,
-    );
 }
 
 /// Cells kept on both sides of every lent slice; a call must leave them alone.

@@ -14,6 +14,8 @@ mod generate;
 mod impacts;
 mod merging;
 mod reference;
+#[path = "../../include/tawqeshim.rs"]
+mod tawqeshim;
 mod worked;
 
 use calls::{by_library, by_reference, number_seen, Call, Case, Outcome, CALLS};
@@ -97,7 +99,35 @@ fn checked(case: &Case, paper: &Outcome) -> Result<Outcome, &'static str> {
     Ok(library)
 }
 
-/// The worked cases and slips through the reference, and the header's count of questions and budgets. Returns how many are wrong.
+/// The constants that are declared for callers, each with what the paper says. A page's length is the library's own choice.
+fn declared() -> [(&'static str, u128, u128); 17] {
+    use reference::*;
+    use tawqeshim::*;
+    let [cells, column, .., marks] = FILE_LENGTHS;
+    // After all but the end of the longest file, a further record of at most 7 bytes decides.
+    let decided = FILE_BYTES - 1 + 7;
+    [
+        ("questions", TAWQESHIM_QUESTIONS.into(), QUESTIONS as u128),
+        ("sectors", TAWQESHIM_SECTORS as u128, SECTORS as u128),
+        ("cells of a column", TAWQESHIM_SECTORS as u128, column as u128),
+        ("cells", TAWQESHIM_CELLS as u128, cells as u128),
+        ("marks", TAWQESHIM_MARKS as u128, marks as u128),
+        ("bytes of a file", TAWQESHIM_FILE as u128, FILE_BYTES as u128),
+        ("bytes that are read", TAWQESHIM_FILE_READ as u128, decided as u128),
+        ("one", TAWQESHIM_ONE.into(), ONE),
+        ("amount", TAWQESHIM_AMOUNT_LIMIT.into(), AMOUNT_LIMIT),
+        ("share", TAWQESHIM_SHARE_LIMIT.into(), ONE),
+        ("column sum", TAWQESHIM_COLUMN_LIMIT.into(), COLUMN_LIMIT),
+        ("demand", TAWQESHIM_DEMAND_LIMIT.into(), DEMAND_LIMIT),
+        ("direct rise", TAWQESHIM_RISE_LIMIT.into(), RISE_LIMIT),
+        ("total of a production", TAWQESHIM_PRODUCTION_LIMIT.into(), PRODUCTION_LIMIT),
+        ("budget of production", TAWQESHIM_PRODUCTION_BUDGET.into(), PRODUCTION_BUDGET.into()),
+        ("budget of price", TAWQESHIM_PRICE_BUDGET.into(), PRICE_BUDGET.into()),
+        ("budget of a page", TAWQESHIM_PAGE_BUDGET.into(), PAGE_BUDGET.into()),
+    ]
+}
+
+/// The worked cases and slips through the reference, and the constants that are declared. Returns how many are wrong.
 fn self_test() -> u64 {
     let mut all = 0;
     let mut wrong = 0;
@@ -116,16 +146,11 @@ fn self_test() -> u64 {
             println!("{name}: wrong");
         }
     }
-    let header = include_str!("../../include/tawqeshim.h");
-    for line in [
-        format!("TAWQESHIM_QUESTIONS = {}\n", reference::QUESTIONS),
-        format!("TAWQESHIM_PRODUCTION_BUDGET UINT32_C({})", reference::PRODUCTION_BUDGET),
-        format!("TAWQESHIM_PRICE_BUDGET UINT32_C({})", reference::PRICE_BUDGET),
-    ] {
+    for (name, declared, paper) in declared() {
         all += 1;
-        if !header.contains(&line) {
+        if declared != paper {
             wrong += 1;
-            println!("the header has not: {line}");
+            println!("{name}: paper {paper}, declared {declared}");
         }
     }
     println!("reference: {all} worked cases, {wrong} wrong");

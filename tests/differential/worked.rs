@@ -3,7 +3,7 @@
 //! add; shares to the nearest millionth; and merged tables.
 
 use crate::calls::{Call, Case, Outcome, GROUPS, PAGE_BYTES};
-use crate::reference::{self, Refusal, AMOUNT_LIMIT, FILE_BYTES, ONE};
+use crate::reference::{self, Refusal, AMOUNT_LIMIT, FILE_BYTES, ONE, PRICE_BUDGET, PRODUCTION_BUDGET};
 
 // "Worked table and its neighbours"
 const X: [u64; 4] = [100, 400, 300, 600];
@@ -77,7 +77,7 @@ pub fn cases() -> Vec<(&'static str, Case, Outcome)> {
     let a = [100_000, 200_000, 300_000, 300_000];
     let sheets: [&[u64]; 5] = [&a, &[600_000, 500_000], &[250_000, 200_000], &D, &F];
     cases.push(("P1", table(), accepted(0, &sheets)));
-    cases.push(("P2", rounds(forward, &D, &F, 1400), accepted(9, &[&[999, 1999], &[0, 0]])));
+    cases.push(("P2", rounds(forward, &D, &F, PRODUCTION_BUDGET), accepted(9, &[&[999, 1999], &[0, 0]])));
     cases.push(("P2 at 9", rounds(forward, &D, &F, 9), accepted(9, &[&[999, 1999], &[0, 0]])));
     let short = rounds(forward, &D, &F, 8);
     let nine = refused(&short, 9, 0);
@@ -88,7 +88,7 @@ pub fn cases() -> Vec<(&'static str, Case, Outcome)> {
     let ten = refused(&below, 10, 0);
     cases.push(("P6", below, ten));
     let rise = accepted(10, &[&[11_393, 2_248], &[0, 0]]);
-    cases.push(("P7", rounds(prices, &D, &[10_000, 0], 1400), rise));
+    cases.push(("P7", rounds(prices, &D, &[10_000, 0], PRICE_BUDGET), rise));
     cases.push(("P8", rounds(forward, &[950_000], &[1], 1), accepted(1, &[&[1], &[0]])));
     for call in [forward, prices, back] {
         let over = rounds(call, &[950_001], &[1], 1);
@@ -105,7 +105,7 @@ pub fn cases() -> Vec<(&'static str, Case, Outcome)> {
             cases.push(("P11", case, one));
         }
     }
-    let half = Case { budget: 1400, ..Case::new(Call::Inverse, 1, vec![vec![500_000]]) };
+    let half = Case { budget: PRICE_BUDGET, ..Case::new(Call::Inverse, 1, vec![vec![500_000]]) };
     let count = settled_by_hand(500_000, 1_000_000);
     cases.push(("P12", half, accepted(count, &[&[1_999_999], &[1_000_000], &[1_000_000]])));
 
@@ -155,7 +155,7 @@ fn impact_cases() -> Vec<(&'static str, Case, Outcome)> {
     };
     // 635 1280 settles at 1011 2003 in 10 rounds.
     let more = [635, 1280];
-    for budget in [10, 1400, u32::MAX] {
+    for budget in [10, PRODUCTION_BUDGET, u32::MAX] {
         rise("a scheme", scheme(&D, &F, &more, budget), 10, &[12, 4]);
     }
     rise("no scheme", scheme(&D, &F, &F, 9), 9, &[0, 0]);
@@ -179,14 +179,14 @@ fn impact_cases() -> Vec<(&'static str, Case, Outcome)> {
     no("no rounds", scheme(&D, &[0, 0], &[0, 0], 0), 9, 0);
     // 17 is asked before 9 and after 8, and 8 of the first demand and then of the second.
     no("the second is below, no rounds", scheme(&D, &F, &[626, 1279], 0), 17, 1);
-    no("the second is below in both", scheme(&D, &F, &[624, 1279], 1400), 17, 0);
-    no("the second is below and over", scheme(&D, &F, &[624, most + 1], 1400), 8, 1);
-    no("each is over in its own sector", scheme(&D, &[0, most + 1], &[most + 1, 0], 1400), 8, 1);
-    no("the second is over in both", scheme(&D, &[0, most], &[most + 1, u64::MAX], 1400), 8, 0);
+    no("the second is below in both", scheme(&D, &F, &[624, 1279], PRODUCTION_BUDGET), 17, 0);
+    no("the second is below and over", scheme(&D, &F, &[624, most + 1], PRODUCTION_BUDGET), 8, 1);
+    no("each is over in its own sector", scheme(&D, &[0, most + 1], &[most + 1, 0], PRODUCTION_BUDGET), 8, 1);
+    no("the second is over in both", scheme(&D, &[0, most], &[most + 1, u64::MAX], PRODUCTION_BUDGET), 8, 0);
     no("a column is over, the second below", scheme(&[1, 475_000, 0, 475_001], &F, &[0, 0], 0), 7, 1);
     // Each slice with a cell less and a cell more, the lent ones too.
     for (slice, less, more_cells) in (0..5).flat_map(|slice| [(slice, 1, 0), (slice, 0, 1)]) {
-        let mut case = scheme(&D, &F, &more, 1400);
+        let mut case = scheme(&D, &F, &more, PRODUCTION_BUDGET);
         if slice < 3 {
             let length = case.given[slice].len() - less + more_cells;
             case.given[slice].resize(length, 0);
@@ -777,11 +777,11 @@ pub fn slips() -> Vec<(&'static str, bool)> {
 
     // The scheme settled by itself, and the counts of both demands added.
     let more = [635, 1280];
-    let given = reference::impact(2, &D, &F, &more, 1400, &[2, 2]);
+    let given = reference::impact(2, &D, &F, &more, PRODUCTION_BUDGET, &[2, 2]);
     let right = given.map(|given| (given.cells[0].clone(), given.counts[0])) == Ok((vec![12, 4], 10));
-    let alone = reference::settle(2, &D, &[10, 0], 1400);
+    let alone = reference::settle(2, &D, &[10, 0], PRODUCTION_BUDGET);
     slips.push(("the scheme settled by itself", alone == Some((vec![11, 3], 4)) && right));
-    let count = |demand: &[u64]| reference::settle(2, &D, demand, 1400).map_or(0, |(_, count)| count);
+    let count = |demand: &[u64]| reference::settle(2, &D, demand, PRODUCTION_BUDGET).map_or(0, |(_, count)| count);
     slips.push(("the counts added", count(&F) + count(&more) == 19 && right));
 
     slips.extend(nearest_slips());
