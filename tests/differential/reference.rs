@@ -308,8 +308,7 @@ pub fn coefficients(
 // "Merging sectors" (document 02, ticket 7)
 // ---------------------------------------------------------------------------------------------
 
-/// A table x, F, E, M, V, X, G with its sectors merged. "It asks 1 to 6, with 16 after 3", then 18 and 19. Lent: the merged table and
-/// the groups' sizes.
+/// A table x, F, E, M, V, X, G with its sectors merged. Asks 1 to 3, 16, 4 to 6, 18, 19. Lent: the merged table and the groups' sizes.
 pub fn aggregate(n: usize, table: [&[u64]; 7], groups: &[u64], lent: &[usize]) -> Result<Given, Refusal> {
     question_1(n)?;
     // "The groups are given as a list of g words, g from 1 to n. Another g fails question 2."
@@ -399,8 +398,8 @@ pub fn production(
     Ok(Given { cells: vec![settled, vec![0; n]], counts: [count as usize, 0] })
 }
 
-/// "What a scheme adds" (document 02, ticket 4): the rise of each sector from the first demand to the second. "It asks what
-/// production asks, of the first demand and then of the second, at each question", and 17 after 8. Lent: rise, work.
+/// "What a scheme adds" (document 02, ticket 4): the rise of each sector from the first demand to the second. Asks 1, 2, 7, 8, 17, 9:
+/// "what production asks, of the first demand and then of the second, at each question". Lent: rise, work.
 pub fn impact(
     n: usize,
     d: &[u64],
