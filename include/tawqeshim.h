@@ -221,7 +221,8 @@ void tawqeshim_aggregate(
  *
  * Takes domestic coefficients d, n * n cells; a demand f, n cells; and the rounds allowed.
  * Gives the settled production in out, n cells, and in *rounds the first round that changes no sector, counted from 1. Against an exact
- * balance no sector is too high, and all n together are less than 20 * n short. A budget of TAWQESHIM_PRODUCTION_BUDGET rounds always suffices.
+ * balance no sector is too high, and all n together are less than 20 * n short. A budget of TAWQESHIM_PRODUCTION_BUDGET rounds always
+ * suffices.
  * A refusal sets every cell of out to 0. Every cell of work, n cells, is 0 after every call.
  */
 void tawqeshim_production(
@@ -238,10 +239,12 @@ void tawqeshim_production(
  *
  * Takes domestic coefficients d, n * n cells; the demands before and after, n cells each, of which the second is nowhere below the first;
  * and the rounds allowed for each demand. 8 and 9 are asked of the first demand and then of the second. The place of 8 is the sector, in
- * both alike.
+ * both alike. Both are demands for domestic goods. A scheme is final demand, of which the import share m is bought elsewhere: with F the
+ * final demand with the scheme, after has (TAWQESHIM_ONE - m) * F / TAWQESHIM_ONE, rounded down, plus exports and adjustment.
  * Gives in out, n cells, the production settled from after less that settled from before; in *rounds the larger of the two counts, which
  * may be that of the first. No sector falls, each rises by at least what was added to it, and all n together rise by less than
- * 20 * T + 20 * n, with T the total added. Equal demands give 0 in every sector. A budget of TAWQESHIM_PRODUCTION_BUDGET rounds always suffices.
+ * 20 * T + 20 * n, with T the total added. Equal demands give 0 in every sector. A budget of TAWQESHIM_PRODUCTION_BUDGET rounds always
+ * suffices.
  * A refusal sets every cell of out to 0. Every cell of work, n cells, is 0 after every call.
  */
 void tawqeshim_impact(
@@ -345,7 +348,7 @@ void tawqeshim_row(
  * seven columns, TAWQESHIM_MARKS (47) for marks.
  * Gives x, whose row i starts at cell i * n; final_demand, exports, imports, value_added, production, adjustment and rises; n in *sectors,
  * and in *named how many cells the file names. Cells that are not named are 0: a file without kind 10 has an adjustment of 0. Amounts are
- * not checked here: tawqeshim_coefficients and tawqeshim_write_table ask 3, and tawqeshim_coefficients 16.
+ * not checked here: tawqeshim_coefficients, tawqeshim_aggregate and tawqeshim_write_table ask 3, and the first two 16.
  * A refusal sets every cell of x and of the seven columns to 0. Every cell of marks, which are work, is 0 after every call.
  */
 void tawqeshim_read_table(
@@ -367,7 +370,7 @@ void tawqeshim_read_table(
  * Takes x, n * n cells; and final_demand, exports, imports, value_added, production, adjustment and rises, n cells each. Places of 3 run
  * on through these eight in this order, so adjustment[0] is place n * n + 5 * n and rises[0] is place n * n + 6 * n. In the file the rises
  * (kind 9) come before the adjustment (kind 10). Question 16 and whether the table balances are not asked here: tawqeshim_coefficients
- * asks them. Question 2 asks for TAWQESHIM_FILE (12,883) bytes of file, which hold every table file.
+ * and tawqeshim_aggregate ask them. Question 2 asks for TAWQESHIM_FILE (12,883) bytes of file, which hold every table file.
  * Gives in *length how many bytes the file has, and in file the file from the start; every byte after it is 0. The table file is the first
  * *length bytes alone: keep and hand on these, since a reader refuses a byte after the end.
  * Reading the file gives n and the cells back. Two written files have the same bytes exactly if n and all cells are the same; that holds of
@@ -389,9 +392,9 @@ void tawqeshim_write_table(
     uint8_t *number, size_t *place, size_t *length);
 
 /*
- * Reads a table file of any bytes and writes the sheet that is printed of it, as the program roadsheet does: demand, production with 1,400
- * rounds allowed, and induced value added and imports, a line a sector; or the one line `refused`, a number and a place. The number is
- * never 9: the rounds always suffice.
+ * Reads a table file of any bytes and writes the sheet that is printed of it, as the program roadsheet does: demand, production with
+ * TAWQESHIM_PAGE_BUDGET rounds allowed, and induced value added and imports, a line a sector; or the one line `refused`, a number and a
+ * place. The number is never 9: the rounds always suffice.
  *
  * Asks 2: out has exactly TAWQESHIM_PAGE (2,851) bytes, which hold every page.
  * Gives in *length how many bytes the page has, and in out the page from the start; every byte after it is 0. A page of `refused` is a

@@ -26,12 +26,13 @@ module _ (t : Table) where
   unfoldable pub domesticDemands : Cells
   domesticDemands = tabulate (t .sectors) (domesticDemand t)
 
-  -- Sheets from a table ask 1 to 7, and 16 after 3
+  -- what sheets from a table ask of the table itself, in order: 1, 2, 3, 16, 4, 5 and 6
   abbrev pub tableChecks : (matrices lent : List ℕ) → List Check
   tableChecks matrices lent =
       size (t .sectors) ∷ lengths (t .sectors) (length (t .flows) ∷ matrices) (map length (t .columns) ++ lent)
       ∷ tableAmounts t ++ balanceChecks t
 
+  -- Sheets from a table ask 1 to 7, and 16 after 3
   unfoldable pub coefficientsReport : (matrices lent : List ℕ) → Report
   coefficientsReport matrices lent =
       verdict (tableChecks matrices lent ++ (columnSums (t .sectors) (at (t .sectors) domesticCoefficients) ∷ [])) []
