@@ -36,22 +36,30 @@ What goes in
     A column is n numbers in the order of the sectors. A matrix is n rows of n numbers, or its n * n numbers in one piece, row by row.
     Both are taken from a list or another sequence, from a buffer of numbers, as array('q') or a memoryview, and from anything that numpy
     makes an array of, as a Series or a DataFrame of pandas; labels are not looked at. numpy is never imported here.
-    A number is an integer from 0 to 2**64 - 1, or a float that is whole and below 2**53. A bool is no number. Anything else, be it a
-    mapping, a set, a string, a masked or missing cell, a fraction or a number below 0, raises TypeError or ValueError, which names the
-    argument and the cell:
+    A number is an integer from 0 to 2**64 - 1, or a float that is whole and below 2**53. A bool is no number. A cell that is no such
+    number, be it a fraction, below 0, masked or missing, raises TypeError or ValueError, which names the argument and the cell:
 
     >>> production(sheets.domestic, [625, -1])
     Traceback (most recent call last):
     ValueError: demand[1] is -1, below 0
 
+    What is no column or matrix of numbers, be it a dict, a set, a string, bytes, or an array of another kind or shape, raises an error
+    that names the argument alone:
+
+    >>> production(sheets.domestic, {0: 625, 1: 1280})
+    Traceback (most recent call last):
+    TypeError: demand is a dict, whose members are no cells in order
+
     Cells are copied for the call and never changed.
 
 What comes out
-    Lists of integers. A matrix is one list, row by row; `row` takes a row out of it. A table file and a page are bytes.
+    Named tuples of lists of integers, or one list. A matrix is one list, row by row; `row` takes a row out of it. A table file and a page
+    are bytes.
 
 n and budget
-    The number of sectors is taken from the length of a column, or from the sheet where there is none; `n` states it. `budget` is the
-    number of rounds allowed, 1,400 unless stated. 1,400 always suffice: question 9 refuses only where fewer are allowed.
+    The number of sectors is taken from the length of a column, or from the sheet where there is none; `n` states it. Of a Table it is
+    `sectors`. `budget` is the number of rounds allowed, 1,400 unless stated. 1,400 always suffice: question 9 refuses only where fewer are
+    allowed.
 
 Refusals
     A call asks questions of what it is given. The first whose answer is no raises Refused, with the number of the question and a place:
@@ -59,6 +67,12 @@ Refusals
     >>> production(sheets.domestic, sheets.demand, budget=8)
     Traceback (most recent call last):
     tawqeshim.Refused: question 9, place 0: do the rounds settle within the budget?
+
+    Question 2 has no place of its own, so its error says which list has which length:
+
+    >>> production(sheets.domestic, [625, 1280, 0])
+    Traceback (most recent call last):
+    tawqeshim.Refused: question 2, place 0: has every list its exact length? n is 3, the length of demand; domestic has length 4, not 9
 """
 import ctypes
 import math
@@ -66,11 +80,12 @@ import os
 import reprlib
 import sys
 from array import array
-from collections.abc import Mapping, Sequence, Set
+from collections.abc import Iterator, Mapping, Sequence, Set
 from numbers import Integral
 from pathlib import Path
-from typing import Any, Callable, NamedTuple, NoReturn, Optional, Protocol, Union
+from typing import Any, Callable, NamedTuple, NoReturn, Optional, Protocol, TypeVar, Union, cast, overload
 
+# tawqeshim/py.typed, beside this file, tells type checkers that it is typed. Python imports this file: the folder has no __init__.py.
 __version__ = "3.1.0"
 __all__ = ["PRODUCTION_BUDGET", "PRICE_BUDGET", "QUESTIONS", "Refused", "Coefficients", "Production", "Impact", "Prices", "Induced",
            "Inverse", "Table", "Aggregate", "coefficients", "aggregate", "production", "impact", "price", "implied_demand", "induced",
@@ -103,21 +118,45 @@ QUESTIONS: dict[int, str] = {
 }
 
 
-class Refused(Exception):
-    """A refusal: the number of the first question whose answer is no, its place, and the question."""
+class _Short(type):
+    """A class of which `dir` and `help` show what it defines by a name of its own, and not what every tuple or exception has."""
+
+    def __dir__(cls) -> list[str]:
+        return [name for name in vars(cls) if not name.startswith("_")]
+
+
+_Record = TypeVar("_Record", bound="tuple[Any, ...]")
+
+
+def _record(**meanings: str) -> Callable[[type[_Record]], type[_Record]]:
+    """Documents the fields of a named tuple, and makes `help` of it short."""
+    def short(named: type[_Record]) -> type[_Record]:
+        for field, meaning in meanings.items():
+            getattr(named, field).__doc__ = meaning
+        return cast("type[_Record]", _Short(named.__name__, named.__bases__, dict(vars(named))))
+    return short
+
+
+class Refused(Exception, metaclass=_Short):
+    """A refusal. `number` is the number of the first question whose answer is no, `place` its place, and `question` its text. `detail` says
+    for question 2 which list has which length, and for question 19 which group has which sum; otherwise it is empty."""
 
     def __init__(self, number: int, place: int) -> None:
         super().__init__(number, place)
         self.number = number
         self.place = place
         self.question = QUESTIONS[number]
+        self.detail = ""
 
     def __str__(self) -> str:
-        return f"question {self.number}, place {self.place}: {self.question}"
+        return f"question {self.number}, place {self.place}: {self.question} {self.detail}".rstrip()
 
 
+@_record(inputs="input coefficients, a matrix, in millionths", value_added="value shares, in millionths",
+         imports="import shares, in millionths", domestic="domestic coefficients, a matrix, in millionths",
+         demand="the demand for domestic goods, in the money unit of the table")
 class Coefficients(NamedTuple):
-    """The sheets of a table: coefficients and shares in millionths, and the demand for domestic goods in the table's money unit."""
+    """The sheets of a table."""
 
     inputs: list[int]
     value_added: list[int]
@@ -126,27 +165,31 @@ class Coefficients(NamedTuple):
     demand: list[int]
 
 
+@_record(amounts="the production of each sector", rounds="the count of rounds")
 class Production(NamedTuple):
-    """A settled production, and the count of its rounds."""
+    """A settled production."""
 
     amounts: list[int]
     rounds: int
 
 
+@_record(rises="the rise of each sector's production", rounds="the count of rounds, the larger of the two demands")
 class Impact(NamedTuple):
-    """The rise of each sector's production, and the larger count of rounds of the two demands."""
+    """What a second demand adds to the production of a first."""
 
     rises: list[int]
     rounds: int
 
 
+@_record(rises="the price rise of each sector, in millionths", rounds="the count of rounds")
 class Prices(NamedTuple):
-    """Settled price rises in millionths, and the count of their rounds."""
+    """Settled price rises."""
 
     rises: list[int]
     rounds: int
 
 
+@_record(value_added="the value added of each sector", imports="the imports of each sector's goods")
 class Induced(NamedTuple):
     """Value added and imports that a production induces."""
 
@@ -154,8 +197,10 @@ class Induced(NamedTuple):
     imports: list[int]
 
 
+@_record(cells="the inverse, a matrix, in millionths", power="the power of dispersion of each sector, in millionths",
+         sensitivity="the sensitivity of dispersion of each sector, in millionths", rounds="the count of rounds, the largest of a column")
 class Inverse(NamedTuple):
-    """The Leontief inverse, n * n cells; its power and sensitivity of dispersion; the largest count of rounds of a column."""
+    """The Leontief inverse with its ratios."""
 
     cells: list[int]
     power: list[int]
@@ -163,8 +208,14 @@ class Inverse(NamedTuple):
     rounds: int
 
 
+@_record(sectors="n, the number of sectors", named="how many cells its file names; of a table that is from no file, how many are not 0",
+         flows="what each sector buys from each, a matrix", final_demand="final demand inside the region for each sector's goods",
+         exports="exports of each sector's goods", imports="imports of each sector's goods, as positive numbers",
+         value_added="value added of each sector", production="production of each sector",
+         adjustment="adjustment item of each sector, the tax on indirect exports",
+         rises="a production rise of each sector, which no figure uses")
 class Table(NamedTuple):
-    """What a table file holds: a table with its adjustment and rises, and how many cells the file names. `Table.of` makes one of lists."""
+    """A table, with what else a table file holds. `Table.of` makes one of lists."""
 
     sectors: int
     named: int
@@ -181,22 +232,23 @@ class Table(NamedTuple):
     def of(cls, flows: "Matrix", final_demand: "Column", exports: "Column", imports: "Column", value_added: "Column",
            production: "Column", adjustment: "Optional[Column]" = None, rises: "Optional[Column]" = None, *,
            n: Optional[int] = None) -> "Table":
-        """A table of lists, arrays or frames, each cell checked. The adjustment and the rises are n zeros where they are left out. `named`
+        """A table of lists, arrays or frames, each cell checked. The adjustment and the rises are zeros where they are left out. `named`
         counts the cells that are not 0.
 
         >>> table = Table.of([[1]], [4], [0], [0], [5], [6], [1])
         >>> table.adjustment, table.rises, table.named
         ([1], [0], 5)
         """
-        columns = [_column("final_demand", final_demand), _column("exports", exports), _column("imports", imports),
-                   _column("value_added", value_added), _column("production", production)]
-        n = _size(n, columns[0])
-        cells = [_matrix("flows", flows), *columns, _column_or_zeros("adjustment", adjustment, n), _column_or_zeros("rises", rises, n)]
-        return cls(n, sum(amount != 0 for amounts in cells for amount in amounts), *(amounts[:] for amounts in cells))
+        sectors, slices = _listed(flows, {"final_demand": final_demand, "exports": exports, "imports": imports,
+                                          "value_added": value_added, "production": production},
+                                  {"adjustment": adjustment, "rises": rises}, n)
+        cells = [amounts[:] for amounts in slices.values()]
+        return cls(sectors.n, sum(amount != 0 for amounts in cells for amount in amounts), *cells)
 
 
+@_record(table="the merged table", sizes="how many sectors each group took in")
 class Aggregate(NamedTuple):
-    """A table whose sectors are merged, and how many sectors each group took in."""
+    """A table whose sectors are merged."""
 
     table: Table
     sizes: list[int]
@@ -220,6 +272,11 @@ _FILE = 12883
 _PAGE = 2851
 _LARGEST = 2**64 - 1
 _EXACT_FLOATS = 2.0**53
+_AMOUNT = 10**9
+_MATRICES = ("flows", "inputs", "domestic")
+
+# Numbers for the library.
+_Slice = ctypes.Array[ctypes.c_uint64]
 
 
 # ---- the library
@@ -275,7 +332,7 @@ def _whole_float(name: str, value: float) -> int:
     if not value.is_integer():
         raise ValueError(f"{name} is {value}, not a whole number")
     if value >= _EXACT_FLOATS:
-        raise ValueError(f"{name} is {value}: a float above 2**53 need not be the number that was meant; give an integer")
+        raise ValueError(f"{name} is {value}: a float of 2**53 or above need not be the number that was meant; give an integer")
     return int(value)
 
 
@@ -294,17 +351,12 @@ class _Cells(NamedTuple):
     shape: tuple[int, ...]
 
 
-def _column(name: str, cells: "Column") -> ctypes.Array:
+def _column(name: str, cells: "Column") -> _Slice:
     """A column for the library."""
     return _copied(_taken(name, cells, 1).packed)
 
 
-def _column_or_zeros(name: str, cells: "Optional[Column]", n: int) -> ctypes.Array:
-    """A column for the library; n zeros where it is left out."""
-    return _new_column(n) if cells is None else _column(name, cells)
-
-
-def _matrix(name: str, cells: "Matrix") -> ctypes.Array:
+def _matrix(name: str, cells: "Matrix") -> _Slice:
     """A matrix for the library, row by row. One that was given in rows has as many rows as columns."""
     taken = _taken(name, cells, 2)
     if taken.shape[0] != taken.shape[-1]:
@@ -312,7 +364,7 @@ def _matrix(name: str, cells: "Matrix") -> ctypes.Array:
     return _copied(taken.packed)
 
 
-def _words(groups: "Groups") -> ctypes.Array:
+def _words(groups: "Groups") -> _Slice:
     """Groups of sectors for the library, a word each."""
     return _copied(_taken("groups", groups, 1, _word).packed)
 
@@ -330,7 +382,7 @@ def _word(name: str, group: Any) -> int:
     return word
 
 
-def _copied(packed: Any) -> ctypes.Array:
+def _copied(packed: Any) -> _Slice:
     return (ctypes.c_uint64 * (memoryview(packed).nbytes // 8)).from_buffer_copy(packed)
 
 
@@ -354,7 +406,7 @@ def _taken(name: str, cells: Any, dimensions: int, cell: Callable[[str, Any], in
     raise TypeError(f"{name} is a {type(cells).__name__}, not a sequence, buffer or array of numbers")
 
 
-def _from_sequence(name: str, cells: Sequence, dimensions: int, cell: Callable[[str, Any], int]) -> _Cells:
+def _from_sequence(name: str, cells: Sequence[Any], dimensions: int, cell: Callable[[str, Any], int]) -> _Cells:
     """Cells of a list or a tuple. If matrices are allowed and its first member has a length, its members are rows."""
     if dimensions == 2 and cells and hasattr(cells[0], "__len__"):
         return _from_rows(name, cells)
@@ -362,7 +414,7 @@ def _from_sequence(name: str, cells: Sequence, dimensions: int, cell: Callable[[
     return _Cells(_packed(name, cells, shape, cell), shape)
 
 
-def _from_rows(name: str, rows: Sequence) -> _Cells:
+def _from_rows(name: str, rows: Sequence[Any]) -> _Cells:
     taken = [_taken(f"{name}[{i}]", row, 1) for i, row in enumerate(rows)]
     (columns,) = taken[0].shape
     for i, row in enumerate(taken):
@@ -377,8 +429,8 @@ def _from_buffer(name: str, view: memoryview, dimensions: int) -> _Cells:
     code = _native_code(view)
     if code is None:
         raise TypeError(f"{name} is a buffer of format {view.format!r}, not of numbers")
-    numbers = array(code, view.tobytes())
-    return _Cells(numbers if code == "Q" else _packed(name, numbers, view.shape), view.shape)
+    numbers, shape = array(code, view.tobytes()), view.shape or ()
+    return _Cells(numbers if code == "Q" else _packed(name, numbers, shape), shape)
 
 
 def _native_code(view: memoryview) -> Optional[str]:
@@ -436,7 +488,7 @@ def _place(name: str, shape: tuple[int, ...], k: int) -> str:
     return f"{name}[{k}]" if len(shape) == 1 else f"{name}[{k // shape[1]}][{k % shape[1]}]"
 
 
-def _packed(name: str, numbers: Any, shape: tuple[int, ...], cell: Callable[[str, Any], int] = _whole) -> array:
+def _packed(name: str, numbers: Any, shape: tuple[int, ...], cell: Callable[[str, Any], int] = _whole) -> "array[int]":
     """A list or an array of numbers as unsigned 64-bit numbers, each checked."""
     if set(map(type, numbers)) <= {int}:
         try:
@@ -448,30 +500,64 @@ def _packed(name: str, numbers: Any, shape: tuple[int, ...], cell: Callable[[str
 
 # ---- calls
 
-def _size(n: Optional[int], column: ctypes.Array) -> int:
+class _Sectors(NamedTuple):
+    """The number of sectors, and how an error tells of it."""
+
+    n: int
+    told: str
+
+
+def _size(n: Optional[int], name: str, column: _Slice) -> _Sectors:
     """The number of sectors: the length of a column, unless n states it."""
-    return _whole("n", len(column) if n is None else n)
+    return _stated(n) if n is not None else _Sectors(len(column), f"n is {len(column)}, the length of {name}")
 
 
-def _side(n: Optional[int], sheet: ctypes.Array) -> int:
+def _side(n: Optional[int], name: str, sheet: _Slice) -> _Sectors:
     """The number of sectors of a matrix: the root of its count of cells, unless n states it."""
-    return _whole("n", math.isqrt(len(sheet)) if n is None else n)
+    root = math.isqrt(len(sheet))
+    return _stated(n) if n is not None else _Sectors(root, f"n is {root}, the root of the length of {name}, rounded down")
 
 
-def _new_column(n: int) -> ctypes.Array:
-    """An output column. Its length where n is above 40 does not matter: question 1 is asked first, of groups question 2."""
+def _stated(n: int) -> _Sectors:
+    whole = _whole("n", n)
+    return _Sectors(whole, f"n is {whole}")
+
+
+def _new_column(n: int) -> _Slice:
+    """A column of zeros. Its length where n is above 40 does not matter: question 1 is asked first, of groups question 2."""
     return (ctypes.c_uint64 * min(n, _SECTORS))()
 
 
-def _new_matrix(n: int) -> ctypes.Array:
+def _new_matrix(n: int) -> _Slice:
     return (ctypes.c_uint64 * (min(n, _SECTORS) ** 2))()
+
+
+def _listed(flows: "Matrix", columns: "dict[str, Column]", others: "dict[str, Optional[Column]]",
+            n: Optional[int]) -> tuple[_Sectors, dict[str, _Slice]]:
+    """The slices of a table that is given in lists. Others that are left out are n zeros."""
+    slices = {name: _column(name, cells) for name, cells in columns.items()}
+    sectors = _size(n, "final_demand", slices["final_demand"])
+    for name, cells in others.items():
+        slices[name] = _new_column(sectors.n) if cells is None else _column(name, cells)
+    return sectors, {"flows": _matrix("flows", flows), **slices}
+
+
+def _tabled(table: Any, last: str) -> tuple[_Sectors, dict[str, _Slice]]:
+    """The slices of a Table, up to the column of this name."""
+    if not isinstance(table, Table):
+        raise TypeError(f"table is a {type(table).__name__}, not a Table: Table.of makes one of lists")
+    names = Table._fields[3:Table._fields.index(last) + 1]
+    columns = {name: _column(name, getattr(table, name)) for name in names}
+    slices = {"flows": _matrix("flows", table.flows), **columns}
+    n = _whole("sectors", table.sectors)
+    return _Sectors(n, f"n is {n}, the sectors of the table"), slices
 
 
 def _budget(budget: int) -> ctypes.c_uint32:
     return ctypes.c_uint32(_whole("budget", budget, 2**32 - 1))
 
 
-def _file(file: Any) -> ctypes.Array:
+def _file(file: Any) -> "ctypes.Array[ctypes.c_uint8]":
     """The bytes of a file for the library."""
     try:
         view = memoryview(file)
@@ -500,9 +586,55 @@ def _ask(name: str, *words: Any, counts: Sequence[Any] = ()) -> None:
         raise Refused(number.value, place.value)
 
 
+def _ask_of(name: str, sectors: _Sectors, slices: dict[str, _Slice], *words: Any, counts: Sequence[Any] = ()) -> None:
+    """Calls the library with a number of sectors and slices by name, and raises its refusal, with the detail that these tell."""
+    try:
+        _ask(name, sectors.n, *slices.values(), *words, counts=counts)
+    except Refused as no:
+        if no.number == 2:
+            no.detail = "; ".join([sectors.told, *_wrong_lengths(sectors.n, slices)])
+        elif no.number == 19:
+            no.detail = next(_sums_above(sectors.n, slices), "")
+        raise
+
+
+def _wrong_lengths(n: int, slices: dict[str, _Slice]) -> Iterator[str]:
+    """The lists that have not their length: n * n of a matrix, 1 to n of groups, otherwise n."""
+    for name, cells in slices.items():
+        length = n * n if name in _MATRICES else n
+        if name == "groups" and not 1 <= len(cells) <= n:
+            yield f"groups has length {len(cells)}, not 1 to {n}"
+        elif name != "groups" and len(cells) != length:
+            yield f"{name} has length {len(cells)}, not {length}"
+
+
+def _sums_above(n: int, slices: dict[str, _Slice]) -> Iterator[str]:
+    """The sums of merging that are above the limit of an amount, group by group. They are added up here for the error alone. Exports and
+    adjustment together are at most production, by questions 5 and 6, so where their sum is above the limit that of production is too."""
+    groups = [[i for i in range(n) if word >> i & 1] for word in slices["groups"]]
+    flows = slices["flows"]
+    for k, group in enumerate(groups):
+        sums = {f"flows from group {k} to group {l}": sum(flows[i * n + j] for i in group for j in buying)
+                for l, buying in enumerate(groups)}
+        sums.update({f"{name} in group {k}": sum(cells[i] for i in group)
+                     for name, cells in slices.items() if name not in ("flows", "groups")})
+        yield from (f"the sum of {what} is {amount:,}" for what, amount in sums.items() if amount > _AMOUNT)
+
+
+@overload
+def coefficients(flows: Table, /) -> Coefficients: ...
+
+
+@overload
 def coefficients(flows: "Matrix", final_demand: "Column", exports: "Column", imports: "Column", value_added: "Column",
-                 production: "Column", adjustment: "Optional[Column]" = None, *, n: Optional[int] = None) -> Coefficients:
-    """From a table to its sheets. Asks 1, 2, 3, 16, 4, 5, 6, 7, in this order.
+                 production: "Column", adjustment: "Optional[Column]" = None, *, n: Optional[int] = None) -> Coefficients: ...
+
+
+def coefficients(flows: "Union[Table, Matrix]", final_demand: "Optional[Column]" = None, exports: "Optional[Column]" = None,
+                 imports: "Optional[Column]" = None, value_added: "Optional[Column]" = None, production: "Optional[Column]" = None,
+                 adjustment: "Optional[Column]" = None, *, n: Optional[int] = None) -> Coefficients:
+    """From a table to its sheets. Asks 1, 2, 3, 16, 4, 5, 6, 7, in this order. Takes flows and all five columns, with an adjustment or
+    without; or a Table, and nothing beside it. The rises of a Table are no part of it.
 
     `flows` is x: in row i and column j, what sector j buys from sector i. Imports are positive numbers. `adjustment` is the adjustment
     item, the tax on indirect exports; left out, it is n zeros. Each column of flows and value added makes up production, and each row of
@@ -532,13 +664,20 @@ def coefficients(flows: "Matrix", final_demand: "Column", exports: "Column", imp
     >>> coefficients([2], [1], [0], [0], [1], [3])[:2]
     ([666667], [333333])
     """
-    columns = [_column("final_demand", final_demand), _column("exports", exports), _column("imports", imports),
-               _column("value_added", value_added), _column("production", production)]
-    n = _size(n, columns[0])
-    columns.append(_column_or_zeros("adjustment", adjustment, n))
-    a, d = _new_matrix(n), _new_matrix(n)
-    v, m, f = _new_column(n), _new_column(n), _new_column(n)
-    _ask("coefficients", n, _matrix("flows", flows), *columns, a, v, m, d, f)
+    columns = {"final_demand": final_demand, "exports": exports, "imports": imports, "value_added": value_added, "production": production}
+    if isinstance(flows, Table):
+        for name, given in {**columns, "adjustment": adjustment, "n": n}.items():
+            if given is not None:
+                raise TypeError(f"{name} is given beside a Table, which has its own: give the Table alone")
+        sectors, slices = _tabled(flows, "adjustment")
+    else:
+        for name, given in columns.items():
+            if given is None:
+                raise TypeError(f"{name} is left out or None: coefficients takes flows and the columns of a table, or a Table alone")
+        sectors, slices = _listed(flows, cast("dict[str, Column]", columns), {"adjustment": adjustment}, n)
+    a, d = _new_matrix(sectors.n), _new_matrix(sectors.n)
+    v, m, f = (_new_column(sectors.n) for _ in range(3))
+    _ask_of("coefficients", sectors, slices, a, v, m, d, f)
     return Coefficients(a[:], v[:], m[:], d[:], f[:])
 
 
@@ -551,8 +690,8 @@ def aggregate(table: Table, groups: "Groups") -> Aggregate:
 
     Cells of merged rows and columns are added. So what the sectors of a group buy from each other is bought by the new sector from itself.
     The merged table passes questions 1 to 6 and 16, and the totals of its flows and of each column are those before. Question 19 refuses
-    if a sum, or those of exports and adjustment together, is above 1,000,000,000. The rises are no part of merging: in the merged table
-    they are 0, whatever they were. Its `named` counts the cells that are not 0.
+    if a sum, or those of exports and adjustment together, is above 1,000,000,000; its error says which group has which sum. The rises are
+    no part of merging: in the merged table they are 0, whatever they were. Its `named` counts the cells that are not 0.
 
     >>> table = Table.of([[10, 20, 30], [5, 40, 15], [25, 10, 50]], final_demand=[50, 80, 90], exports=[20, 30, 45],
     ...                  imports=[30, 20, 20], value_added=[60, 80, 105], production=[100, 150, 200])
@@ -569,35 +708,26 @@ def aggregate(table: Table, groups: "Groups") -> Aggregate:
     `coefficients` of the merged table may be refused, by question 7 alone, also where those of the table before are accepted. What it
     gives are figures of their own, as these import shares:
 
-    >>> coefficients(*table[2:9]).imports
+    >>> coefficients(table).imports
     [272727, 142857, 114286]
-    >>> coefficients(*merged[2:9]).imports
+    >>> coefficients(merged).imports
     [175439, 142857]
     """
-    given = _table_cells(table, "adjustment")
+    sectors, slices = _tabled(table, "adjustment")
     words = _words(groups)
     g = len(words)
-    merged, sizes = [_new_matrix(g), *(_new_column(g) for _ in given[1:])], _new_column(g)
-    _ask("aggregate", _whole("sectors", table.sectors), *given, words, *merged, sizes)
+    merged, sizes = [_new_matrix(g), *(_new_column(g) for _ in range(6))], _new_column(g)
+    _ask_of("aggregate", sectors, {**slices, "groups": words}, *merged, sizes)
     return Aggregate(Table.of(*(cells[:] for cells in merged)), sizes[:])
-
-
-def _table_cells(table: Any, last: str) -> list[ctypes.Array]:
-    """The cells of a table for the library, up to the column of this name."""
-    if not isinstance(table, Table):
-        raise TypeError(f"table is a {type(table).__name__}, not a Table: Table.of makes one of lists")
-    names = Table._fields[3:Table._fields.index(last) + 1]
-    columns = [_column(name, getattr(table, name)) for name in names]
-    return [_matrix("flows", table.flows), *columns]
 
 
 def _settled(call: str, domestic: "Matrix", given: "dict[str, Column]", budget: int, n: Optional[int]) -> tuple[list[int], int]:
     """The amounts and the count of a call that settles the columns given by their names."""
-    starts = [_column(name, start) for name, start in given.items()]
-    n = _size(n, starts[0])
-    out, work = _new_column(n), _new_column(n)
+    starts = {name: _column(name, start) for name, start in given.items()}
+    sectors = _size(n, *next(iter(starts.items())))
+    out, work = _new_column(sectors.n), _new_column(sectors.n)
     rounds = ctypes.c_uint32()
-    _ask(call, n, _matrix("domestic", domestic), *starts, _budget(budget), out, work, counts=[rounds])
+    _ask_of(call, sectors, {"domestic": _matrix("domestic", domestic), **starts}, _budget(budget), out, work, counts=[rounds])
     return out[:], rounds.value
 
 
@@ -664,9 +794,9 @@ def implied_demand(domestic: "Matrix", production: "Column", *, n: Optional[int]
     tawqeshim.Refused: question 10, place 0: does the production leave every sector's demand at 0 or above?
     """
     amounts = _column("production", production)
-    n = _size(n, amounts)
-    out = _new_column(n)
-    _ask("implied_demand", n, _matrix("domestic", domestic), amounts, out)
+    sectors = _size(n, "production", amounts)
+    out = _new_column(sectors.n)
+    _ask_of("implied_demand", sectors, {"domestic": _matrix("domestic", domestic), "production": amounts}, out)
     return out[:]
 
 
@@ -679,11 +809,11 @@ def induced(inputs: "Matrix", imports: "Column", value_added: "Column", final_de
     >>> induced([[100_000, 200_000], [300_000, 300_000]], [250_000, 200_000], [600_000, 500_000], [500, 900], [999, 1999])
     Induced(value_added=[599, 999], imports=[249, 359])
     """
-    columns = [_column("imports", imports), _column("value_added", value_added), _column("final_demand", final_demand),
-               _column("production", production)]
-    n = _size(n, columns[-1])
-    value, imported = _new_column(n), _new_column(n)
-    _ask("induced", n, _matrix("inputs", inputs), *columns, value, imported)
+    columns = {"imports": _column("imports", imports), "value_added": _column("value_added", value_added),
+               "final_demand": _column("final_demand", final_demand), "production": _column("production", production)}
+    sectors = _size(n, "production", columns["production"])
+    value, imported = _new_column(sectors.n), _new_column(sectors.n)
+    _ask_of("induced", sectors, {"inputs": _matrix("inputs", inputs), **columns}, value, imported)
     return Induced(value[:], imported[:])
 
 
@@ -695,15 +825,16 @@ def inverse(domestic: "Matrix", budget: int = PRICE_BUDGET, *, n: Optional[int] 
     Inverse(cells=[1999999], power=[1000000], sensitivity=[1000000], rounds=21)
     """
     sheet = _matrix("domestic", domestic)
-    n = _side(n, sheet)
-    cells, power, sensitivity = _new_matrix(n), _new_column(n), _new_column(n)
+    sectors = _side(n, "domestic", sheet)
+    cells, power, sensitivity = _new_matrix(sectors.n), _new_column(sectors.n), _new_column(sectors.n)
     rounds = ctypes.c_uint32()
-    _ask("inverse", n, sheet, _budget(budget), cells, power, sensitivity, counts=[rounds])
+    _ask_of("inverse", sectors, {"domestic": sheet}, _budget(budget), cells, power, sensitivity, counts=[rounds])
     return Inverse(cells[:], power[:], sensitivity[:], rounds.value)
 
 
 def row(sheet: "Matrix", sector: int, *, n: Optional[int] = None) -> Union[list[int], memoryview]:
-    """A sector's row: of a contiguous buffer of unsigned 64-bit numbers a memoryview of that stretch of it, of another sheet a list.
+    """A sector's row as a list; or as a memoryview of that stretch of the sheet, if this is an array('Q'), a numpy array of uint64 with its
+    rows in one piece, or another contiguous buffer of format Q or L with 64 bits.
 
     It is empty if n is not from 1 to 40, the sheet has not n * n cells or the sector is not below n.
 
@@ -714,7 +845,7 @@ def row(sheet: "Matrix", sector: int, *, n: Optional[int] = None) -> Union[list[
     """
     cells = _matrix("sheet", sheet)
     start, length = ctypes.c_size_t(), ctypes.c_size_t()
-    _call("row", _side(n, cells), cells, _whole("sector", sector), *map(ctypes.byref, (start, length)))
+    _call("row", _side(n, "sheet", cells).n, cells, _whole("sector", sector), *map(ctypes.byref, (start, length)))
     stretch = slice(start.value, start.value + length.value)
     own = _own_cells(sheet)
     return cells[stretch] if own is None else own[stretch]
@@ -752,8 +883,8 @@ def write_table(table: Table) -> bytes:
     """The bytes of a table's file. Asks 1, 2, 3; in the places of 3 the adjustment comes after production, and the rises last.
 
     The cells that are not 0 stand in one order. So two tables have the same bytes exactly if n and all cells are the same, and reading the
-    bytes gives the table back. `named` is not looked at. Question 16 and whether the table balances are not asked: `coefficients` and
-    `page` ask them.
+    bytes gives n and all cells back. `named` is not looked at, and is the count of the cells that are not 0 when the bytes are read.
+    Question 16 and whether the table balances are not asked: `coefficients` and `page` ask them.
 
     >>> table = Table.of([[100, 400], [300, 600]], [500, 900], [250, 560], [250, 360], [600, 1000], [1000, 2000])
     >>> file = write_table(table)
@@ -765,9 +896,9 @@ def write_table(table: Table) -> bytes:
     Traceback (most recent call last):
     tawqeshim.Refused: question 3, place 17: is every amount within 1,000,000,000 and every share within one?
     """
-    cells = _table_cells(table, "rises")
+    sectors, slices = _tabled(table, "rises")
     file, length = (ctypes.c_uint8 * _FILE)(), ctypes.c_size_t()
-    _ask("write_table", _whole("sectors", table.sectors), *cells, file, counts=[length])
+    _ask_of("write_table", sectors, slices, file, counts=[length])
     return bytes(file)[:length.value]
 
 

@@ -1,6 +1,7 @@
 """Tests of python/tawqeshim.py: refusals, what it takes as cells and what it does not, how shares are rounded, what schemes add, the
-slowest sheets, its library, the worked table from its file to its page, tables written as files, and merged tables. Tests of numpy and
-pandas are skipped where these are not installed."""
+slowest sheets, its library, the worked table from its file to its page, tables written as files, merged tables, its records, help and
+types. Tests of numpy, pandas and mypy are skipped where these are not installed."""
+import copy
 import ctypes
 import doctest
 import inspect
@@ -56,7 +57,9 @@ class Refusing(unittest.TestCase):
             call(*given, **named)
         no = seen.exception
         self.assertEqual((no.number, no.place, no.question), (number, place, t.QUESTIONS[number]))
-        self.assertEqual(str(no), f"question {number}, place {place}: {t.QUESTIONS[number]}")
+        self.assertEqual(bool(no.detail), number in (2, 19))
+        self.assertEqual(str(no), f"question {number}, place {place}: {t.QUESTIONS[number]}" + f" {no.detail}" * bool(no.detail))
+        return no.detail
 
 
 class Refusals(Refusing):
@@ -121,9 +124,33 @@ class Refusals(Refusing):
         self.refused(2, 0, t.inverse, DOMESTIC[:3])
         self.assertEqual(t.row(DOMESTIC[:3], 0), [])
 
+    def test_which_list_has_which_length(self):
+        long = "has every list its exact length? n is 3, the length of demand; domestic has length 4, not 9"
+        with self.assertRaisesRegex(t.Refused, f"^question 2, place 0: {re.escape(long)}$"):
+            t.production(ROWS, DEMAND + [0])
+        for detail, call, *given in [
+                ("n is 2, the length of rises; domestic has length 3, not 4", t.price, DOMESTIC[:3], DEMAND),
+                ("n is 2, the length of before; after has length 3, not 2", t.impact, DOMESTIC, DEMAND, DEMAND + [0]),
+                ("n is 3, the length of before; domestic has length 4, not 9; after has length 2, not 3",
+                 t.impact, DOMESTIC, DEMAND + [0], DEMAND),
+                ("n is 1, the length of production; domestic has length 4, not 1", t.implied_demand, DOMESTIC, [1]),
+                ("n is 2, the length of production; imports has length 1, not 2", t.induced, FLOWS, [0], [0, 0], [0, 0], [0, 0]),
+                ("n is 1, the root of the length of domestic, rounded down; domestic has length 3, not 1", t.inverse, DOMESTIC[:3]),
+                ("n is 3, the length of final_demand; flows has length 4, not 9; exports has length 2, not 3; imports has length 2, not 3; "
+                 "value_added has length 2, not 3; production has length 2, not 3", t.coefficients, FLOWS, [500, 900, 0], *COLUMNS[1:])]:
+            self.assertEqual(self.refused(2, 0, call, *given), detail)
+        self.assertEqual(self.refused(2, 0, t.inverse, DOMESTIC, n=3), "n is 3; domestic has length 4, not 9")
+        for name in [*table(), "adjustment"]:
+            detail = f"n is 2; {name} has length 3, not {4 if name == 'flows' else 2}"
+            self.assertEqual(self.refused(2, 0, t.coefficients, **table(**{name: [0] * 3}), n=2), detail)
+
     def test_a_refusal_can_be_kept(self):
-        no = pickle.loads(pickle.dumps(t.Refused(9, 0)))
-        self.assertEqual((no.number, str(no)), (9, str(t.Refused(9, 0))))
+        for call in (lambda: t.production(DOMESTIC, DEMAND, 8), lambda: t.production(DOMESTIC, [1])):
+            try:
+                call()
+            except t.Refused as no:
+                for kept in (pickle.loads(pickle.dumps(no)), copy.copy(no)):
+                    self.assertEqual((type(kept), kept.args, vars(kept), str(kept)), (t.Refused, (no.number, no.place), vars(no), str(no)))
 
 
 class Given(unittest.TestCase):
@@ -169,10 +196,9 @@ class Sequences(Given):
 
     def test_every_argument_is_named(self):
         for name in [*table(), "adjustment"]:
-            for wrong in ({0: 1}, None, "12"):
-                if wrong is not None or name != "adjustment":
-                    with self.assertRaisesRegex(TypeError, f"^{name} is a "):
-                        t.coefficients(**table(**{name: wrong}))
+            for wrong in ({0: 1}, "12"):
+                with self.assertRaisesRegex(TypeError, f"^{name} is a "):
+                    t.coefficients(**table(**{name: wrong}))
             with self.assertRaisesRegex(ValueError, rf"^{name}\[1\] is -7, below 0$"):
                 t.coefficients(**table(**{name: [0, -7]}))
         names = ["inputs", "imports", "value_added", "final_demand", "production"]
@@ -208,7 +234,7 @@ class Sequences(Given):
         self.not_taken(ValueError, r"demand\[1\] is a number of \d+ bits, below 0$", [0, -10**400], [0, -10**5000])
         self.not_taken(ValueError, r"demand\[1\] is (1.5|-0.5|nan|inf|-inf), not a whole number$", [0, 1.5], [0, -0.5], [0, float("nan")],
                        [0, float("inf")], [0, float("-inf")])
-        self.not_taken(ValueError, r"demand\[1\] is (9007199254740992.0|1e\+300): a float above 2\*\*53", [0, 2.0**53], [0, 1e300])
+        self.not_taken(ValueError, r"demand\[1\] is (9007199254740992.0|1e\+300): a float of 2\*\*53 or above", [0, 2.0**53], [0, 1e300])
         self.assertEqual(t._whole("x", 2.0**53 - 1), 2**53 - 1)
 
     def test_other_numbers(self):
@@ -312,7 +338,7 @@ class Numpy(Given):
                        *(numpy.array([0, cell], dtype=code) for code in "efd" for cell in (nan, inf, -inf, 0.5, -1.5)))
         self.not_taken(ValueError, r"demand\[1\] is .*, not a whole number$", numpy.array([0, 1 + 2 * numpy.finfo("g").eps], dtype="g"),
                        *(numpy.array([0, cell], dtype="g") for cell in (nan, inf, 0.5)))
-        self.not_taken(ValueError, r"demand\[1\] is 9007199254740992.0: a float above 2\*\*53", numpy.array([0, 2.0**53]))
+        self.not_taken(ValueError, r"demand\[1\] is 9007199254740992.0: a float of 2\*\*53 or above", numpy.array([0, 2.0**53]))
         below = numpy.array([[0, 0], [-3, 0]])
         self.sheet_not_taken(ValueError, r"domestic\[1\]\[0\] is -3, below 0$", below, numpy.asfortranarray(below), below.T.copy().T)
         with numpy.errstate(all="raise"):
@@ -472,6 +498,50 @@ class Shares(Refusing):
             self.assertEqual(t.page(t.write_table(t.Table.of(*table))), page)
 
 
+class Tables(Refusing):
+    """A Table as what sheets are worked out from."""
+
+    def test_the_same_as_its_lists(self):
+        for table in (Merging.WORKED, Merging.THREE, t.Table.of(**Tables.adjusted()), t.read_table(Merging.FILE),
+                      t.aggregate(t.read_table(Merging.FILE), Merging.THIRTEEN).table):
+            self.assertEqual(t.coefficients(table), t.coefficients(*table[2:9]))
+        self.assertEqual(t.coefficients(flows=Merging.WORKED).demand, DEMAND)
+        self.assertEqual(t.coefficients(Merging.WORKED._replace(flows=[FLOWS[:2], FLOWS[2:]], exports=(250.0, 560))).demand, DEMAND)
+        # the rises are no part of it
+        self.assertEqual(t.coefficients(Merging.WORKED._replace(rises=[2**64])).demand, DEMAND)
+
+    @staticmethod
+    def adjusted():
+        return table(imports=ADJUSTED_IMPORTS, adjustment=ADJUSTMENT)
+
+    def test_refusals(self):
+        for number, place, changed in [(1, 0, {"sectors": 41}), (3, 5, {"final_demand": [500, 10**9 + 1]}),
+                                       (16, 0, {"exports": [10**9, 0], "adjustment": [1, 0]}), (4, 1, {"value_added": [600, 1001]}),
+                                       (5, 0, {"exports": [251, 560]}), (5, 1, {"adjustment": [0, 1]})]:
+            self.refused(number, place, t.coefficients, Merging.WORKED._replace(**changed))
+        self.assertEqual(self.refused(2, 0, t.coefficients, Merging.WORKED._replace(sectors=3, adjustment=[0] * 3)),
+                         "n is 3, the sectors of the table; flows has length 4, not 9; " +
+                         "; ".join(f"{name} has length 2, not 3" for name in [*table()][1:]))
+        with self.assertRaisesRegex(ValueError, r"^imports\[1\] is -7, below 0$"):
+            t.coefficients(Merging.WORKED._replace(imports=[0, -7]))
+
+    def test_a_table_alone_or_every_column(self):
+        for name in [*table(), "adjustment", "n"][1:]:
+            with self.assertRaisesRegex(TypeError, f"^{name} is given beside a Table, which has its own: give the Table alone$"):
+                t.coefficients(Merging.WORKED, **{name: 2 if name == "n" else [0, 0]})
+        for name in [*table()][1:]:
+            given = table()
+            del given[name]
+            for other in (given, table(**{name: None})):
+                with self.assertRaisesRegex(TypeError, f"^{name} is left out or None: .*, or a Table alone$"):
+                    t.coefficients(**other)
+        for given in (FLOWS, tuple(Merging.WORKED), t.aggregate(Merging.WORKED, [[0, 1]]), None):
+            with self.assertRaisesRegex(TypeError, "^final_demand is left out or None: .*, or a Table alone$"):
+                t.coefficients(given)
+        with self.assertRaisesRegex(TypeError, "^flows is a NoneType, "):
+            t.coefficients(**table(flows=None))
+
+
 class Schemes(unittest.TestCase):
     """What a scheme adds to production."""
 
@@ -523,7 +593,7 @@ class Merging(Refusing):
             merged = t.aggregate(self.WORKED, groups)
             self.assertEqual(merged, ((1, 6, [1400], [1400], [810], [610], [1600], [3000], [0], [0]), [2]))
         self.assertEqual((type(merged), type(merged.table)), (t.Aggregate, t.Table))
-        self.assertEqual(t.coefficients(*merged.table[2:9]), ([466_667], [533_333], [217_857], [365_000], [1905]))
+        self.assertEqual(t.coefficients(merged.table), ([466_667], [533_333], [217_857], [365_000], [1905]))
         adjusted = t.Table.of(**table(imports=ADJUSTED_IMPORTS, adjustment=ADJUSTMENT))
         self.assertEqual(t.aggregate(adjusted, [[0, 1]]).table, (1, 7, [1400], [1400], [810], [750], [1600], [3000], [140], [0]))
 
@@ -608,12 +678,35 @@ class Merging(Refusing):
         self.refused(19, 0, t.aggregate, self.made(limit - 1, 2, exports=[limit - 1, 0], adjustment=[0, 2], **none), groups)
         full = self.made(*[limit] * 40, n=40)
         self.assertEqual(t.aggregate(full, [[i] for i in range(40)]).table, full)
-        self.refused(19, 0, t.aggregate, full, [range(40)])
+        self.assertEqual(self.refused(19, 0, t.aggregate, full, [range(40)]), "the sum of final_demand in group 0 is 40,000,000,000")
+
+    def test_which_group_has_which_sum(self):
+        limit, zeros = 10**9, [0] * 3
+        over = [limit, limit, 1]
+        for detail, groups, table in [
+                ("the sum of final_demand in group 1 is 1,000,000,001", [[0], [1, 2]], self.made(*over, n=3)),
+                ("the sum of final_demand in group 0 is 2,000,000,001", [7], self.made(*over, n=3)),
+                ("the sum of exports in group 1 is 1,000,000,001", [[0], [2, 1]], self.made(*over, n=3, final_demand=zeros, exports=over)),
+                ("the sum of flows from group 0 to group 1 is 1,000,000,002", [[2], [1, 0]],
+                 t.Table.of([0] * 6 + [limit, 2, 0], [limit, 2, 0], zeros, [0, 0, limit], [0, 0, 2], [limit, 2, 2])),
+                ("the sum of imports in group 0 is 1,000,000,001", [[0, 1], [2]],
+                 t.Table.of([1] + [0] * 8, [limit - 1, 1, 0], [1, 0, 0], [limit, 1, 0], zeros, [1, 0, 0])),
+                ("the sum of value_added in group 0 is 1,000,000,001", [[0, 2], [1]],
+                 t.Table.of([0] * 9, [limit - 1, 0, 0], [1, 0, 1], zeros, [limit, 0, 1], [limit, 0, 1])),
+                ("the sum of production in group 0 is 1,000,000,001", [[0, 2], [1]],
+                 t.Table.of([1] + [0] * 8, [limit - 2, 0, 0], [1, 0, 1], zeros, [limit - 1, 0, 1], [limit, 0, 1])),
+                # exports are limit - 1 and the adjustment is 2
+                ("the sum of production in group 1 is 1,000,000,002", [[0], [1, 2]],
+                 t.Table.of([0] * 4 + [1, 0, 0, 0, 1], zeros, [0, limit - 1, 0], [0, 0, 1], [0, limit - 1, 1], [0, limit, 2], [0, 0, 2]))]:
+            with self.subTest(detail=detail):
+                self.assertEqual(self.refused(19, 0, t.aggregate, table, groups), detail)
 
     def test_how_many_groups(self):
         for table, groups in [(self.WORKED, []), (self.WORKED, ()), (self.WORKED, [[0], [1], []]), (self.WORKED, [1, 2, 3]),
                               (self.WORKED, [3] * 41), (self.WORKED, [[0, 1]] * 1000), (self.made(7, n=1), [[0], [0]])]:
-            self.refused(2, 0, t.aggregate, table, groups)
+            n = table.sectors
+            self.assertEqual(self.refused(2, 0, t.aggregate, table, groups),
+                             f"n is {n}, the sectors of the table; groups has length {len(groups)}, not 1 to {n}")
 
     def test_the_order_of_the_questions(self):
         bad, limit = [[0], [0]], 10**9
@@ -636,18 +729,21 @@ class Merging(Refusing):
         for name in t.Table._fields[2:9]:
             for other in ([], [0] * 3, [0] * 5):
                 self.refused(2, 0, t.aggregate, self.WORKED._replace(**{name: other}), [[0, 1]])
+        self.assertEqual(self.refused(2, 0, t.aggregate, self.WORKED._replace(imports=[0], exports=[1, 2, 3]), []),
+                         "n is 2, the sectors of the table; exports has length 3, not 2; imports has length 1, not 2; "
+                         "groups has length 0, not 1 to 2")
         # the rises are no part of it
         self.assertEqual(t.aggregate(self.WORKED._replace(rises=[2**64]), [[0, 1]]), t.aggregate(self.WORKED, [[0, 1]]))
 
     def test_question_7(self):
         # the first sector buys what the second imports; merged with the third, that is no longer told apart
         apart = t.Table.of([0, 0, 0, 98, 0, 0, 0, 0, 0], [100, 0, 10_000], [0] * 3, [0, 98, 0], [2, 0, 10_000], [100, 0, 10_000])
-        self.assertEqual(t.coefficients(*apart[2:9]).domestic, [0] * 9)
-        self.refused(7, 0, t.coefficients, *t.aggregate(apart, [[0], [1, 2]]).table[2:9])
+        self.assertEqual(t.coefficients(apart).domestic, [0] * 9)
+        self.refused(7, 0, t.coefficients, t.aggregate(apart, [[0], [1, 2]]).table)
         # a sector that is refused, merged with a neighbour
         over = t.Table.of([960_000, 0, 0, 0], [40_000, 10**6], [0, 0], [0, 0], [40_000, 10**6], [10**6, 10**6])
-        self.refused(7, 0, t.coefficients, *over[2:9])
-        self.assertEqual(t.coefficients(*t.aggregate(over, [[0, 1]]).table[2:9]).domestic, [480_000])
+        self.refused(7, 0, t.coefficients, over)
+        self.assertEqual(t.coefficients(t.aggregate(over, [[0, 1]]).table).domestic, [480_000])
 
     def test_what_is_no_group(self):
         for error, text, groups in [
@@ -745,7 +841,7 @@ class Files(unittest.TestCase):
         self.assertEqual(len(file), 91)
         read = t.read_table(file)
         self.assertEqual(read, (2, 14, FLOWS, *COLUMNS, [0, 0], [0, 0]))
-        self.assertEqual(t.coefficients(*read[2:9]).demand, DEMAND)
+        self.assertEqual(t.coefficients(read).demand, DEMAND)
         for given in (file, bytearray(file), memoryview(file), array("B", file), memoryview(file[::-1])[::-1]):
             self.assertEqual(t.page(given), (ROOT / "crates/roadsheet/stdout").read_bytes())
 
@@ -754,7 +850,7 @@ class Files(unittest.TestCase):
         self.assertEqual(len(file), 103)
         read = t.read_table(file)
         self.assertEqual(read, (2, 16, *table(imports=ADJUSTED_IMPORTS).values(), ADJUSTMENT, [0, 0]))
-        sheets = t.coefficients(*read[2:9])
+        sheets = t.coefficients(read)
         self.assertEqual(sheets, t.coefficients(**table(imports=ADJUSTED_IMPORTS, adjustment=ADJUSTMENT)))
         self.assertEqual((sheets.imports, sheets.demand), ([300_000, 250_000], [650, 1325]))
         made = t.production(sheets.domestic, sheets.demand)
@@ -829,6 +925,7 @@ class Written(Refusing):
             self.assertNotEqual(file, self.FILE)
             self.assertEqual(t.write_table(t.read_table(file)), self.FILE)
         self.assertEqual(t.write_table(self.WORKED._replace(named=0)), self.FILE)
+        self.assertEqual(t.read_table(t.write_table(self.WORKED._replace(named=0))), self.WORKED)
 
     def test_tables_that_differ(self):
         files = {t.write_table(table) for table in self.tables()}
@@ -850,7 +947,8 @@ class Written(Refusing):
         for name in self.SLICES:
             cells = getattr(self.WORKED, name)
             for other in ([], cells[1:], cells + [0], [10**9 + 1]):
-                self.refused(2, 0, t.write_table, self.WORKED._replace(**{name: other}))
+                self.assertEqual(self.refused(2, 0, t.write_table, self.WORKED._replace(**{name: other})),
+                                 f"n is 2, the sectors of the table; {name} has length {len(other)}, not {len(cells)}")
         place = 0
         for name in self.SLICES:
             cells = getattr(self.WORKED, name)
@@ -944,8 +1042,13 @@ class Help(unittest.TestCase):
                 self.assertNotIn(inspect.Signature.empty, kinds)
                 self.assertIn(">>> ", thing.__doc__)
             elif inspect.isclass(thing):
-                self.assertNotIn("Alias for field", thing.__doc__)
-                self.assertGreater(len(thing.__doc__), 30)
+                self.assertGreater(len(thing.__doc__), 15)
+
+    def test_help_is_short(self):
+        text = pydoc.render_doc(t, renderer=pydoc.plaintext)
+        for boilerplate in ("Alias for field", "inherited from", "_replace(", "_make(", "__new__", "__repr__", "__annotations__", "count("):
+            self.assertNotIn(boilerplate, text.split("FUNCTIONS")[0], boilerplate)
+        self.assertLess(text.split("\n").index("FUNCTIONS"), 400)
 
     def test_every_function_is_typed(self):
         for name, thing in inspect.getmembers(t, lambda thing: inspect.isfunction(thing) and thing.__module__ == t.__name__):
@@ -953,12 +1056,81 @@ class Help(unittest.TestCase):
             self.assertFalse(missing or "return" not in thing.__annotations__, name)
 
 
+class Records(unittest.TestCase):
+    """What the calls give are named tuples like any others, of which `help` shows less."""
+
+    FIELDS = {"Coefficients": "inputs value_added imports domestic demand", "Production": "amounts rounds", "Impact": "rises rounds",
+              "Prices": "rises rounds", "Induced": "value_added imports", "Inverse": "cells power sensitivity rounds",
+              "Table": "sectors named flows final_demand exports imports value_added production adjustment rises",
+              "Aggregate": "table sizes"}
+
+    def test_each_is_a_tuple(self):
+        self.assertEqual(set(self.FIELDS), {name for name in t.__all__ if inspect.isclass(getattr(t, name))} - {"Refused"})
+        for name, fields in self.FIELDS.items():
+            kind, fields = getattr(t, name), tuple(fields.split())
+            plain = tuple([k] for k in range(len(fields)))
+            record = kind(*plain)
+            self.assertEqual((kind.__mro__, kind._fields, kind.__module__, kind.__qualname__),
+                             ((kind, tuple, object), fields, "tawqeshim", name))
+            self.assertEqual((record, tuple(record), [*record], len(record), hash(kind)), (plain, plain, [*plain], len(plain), hash(kind)))
+            self.assertEqual(record, kind(**dict(zip(fields, plain))))
+            self.assertEqual([getattr(record, field) for field in fields], [*plain])
+            self.assertEqual(repr(record), f"{name}({', '.join(f'{field}={cells}' for field, cells in zip(fields, plain))})")
+            kept = [pickle.loads(pickle.dumps(record, protocol)) for protocol in range(pickle.HIGHEST_PROTOCOL + 1)]
+            for same in (*kept, copy.copy(record), copy.deepcopy(record), kind._make(plain), record._replace()):
+                self.assertEqual((type(same), same), (kind, record))
+            self.assertEqual(record._asdict(), dict(zip(fields, plain)))
+            self.assertEqual(record._replace(**{fields[-1]: 7}), (*plain[:-1], 7))
+            with self.assertRaises(AttributeError):
+                record.other = 1
+            with self.assertRaises(TypeError):
+                kind(*plain, 1)
+
+    def test_dir(self):
+        for name, fields in self.FIELDS.items():
+            kind = getattr(t, name)
+            self.assertEqual(set(dir(kind)), {*fields.split(), *["of"] * (name == "Table")})
+            self.assertTrue({"_replace", "count", *fields.split()} <= set(dir(kind(*fields.split()))))
+            for field in fields.split():
+                self.assertNotIn("Alias", getattr(kind, field).__doc__)
+
+
+class Types(unittest.TestCase):
+    """What a type checker sees of the module."""
+
+    SCRIPT = """
+import tawqeshim
+flows = [[100, 400], [300, 600]]
+table = tawqeshim.Table.of(flows, [500, 900], [250, 560], [250, 360], [600, 1000], [1000, 2000])
+sheets = tawqeshim.coefficients(table)
+domestic: list[int] = sheets.domestic
+made = tawqeshim.production(domestic, sheets.demand)
+amounts: list[int] = made.amounts
+merged: tawqeshim.Table = tawqeshim.aggregate(table, [[0, 1]]).table
+tawqeshim.coefficients(*table[2:9])
+"""
+    WRONG = ["rounds: str = made.rounds", "tawqeshim.production(domestic, {0: 625, 1: 1280})", "tawqeshim.coefficients(flows)",
+             "tawqeshim.coefficients(table, [500, 900])"]
+
+    @unittest.skipUnless(shutil.which("mypy"), "mypy is not installed")
+    def test_mypy(self):
+        with tempfile.TemporaryDirectory() as place:
+            script = Path(place) / "mine.py"
+            script.write_text("\n".join([self.SCRIPT, *self.WRONG]))
+            for path in ("PYTHONPATH", "MYPYPATH"):
+                run = subprocess.run(["mypy", "--strict", f"--cache-dir={place}", "--hide-error-context", script], cwd=place, text=True,
+                                     capture_output=True, env={**os.environ, path: str(ROOT / "python")})
+                wrong = re.findall(r"^mine\.py:(\d+): error: ", run.stdout, re.MULTILINE)
+                first = self.SCRIPT.count("\n") + 2
+                self.assertEqual(wrong, [str(first + k) for k in range(len(self.WRONG))], run.stdout + run.stderr)
+
+
 class Documents(unittest.TestCase):
     """What the documents say that can be held against the repository."""
 
     def test_examples(self):
         for name in ("README.md", "docs/CALLS.md"):
-            self.assertEqual(doctest.testfile(str(ROOT / name), module_relative=False).failed, 0)
+            self.assertEqual(doctest.testfile(str(ROOT / name), module_relative=False, verbose=False).failed, 0)
 
     def test_the_worked_file_and_its_page(self):
         model = (ROOT / "docs/MODEL.md").read_text()
