@@ -53,8 +53,8 @@ What goes in
     Cells are copied for the call and never changed.
 
 What comes out
-    Named tuples of lists of integers, or one list. A matrix is one list, row by row; `row` takes a row out of it. A table file and a page
-    are bytes.
+    Lists of integers, in a named tuple where there are several or a count beside them. A matrix is one list, row by row; `row` takes a row
+    out of it. A table file and a page are bytes.
 
 n and budget
     The number of sectors is taken from the length of a column, or from the sheet where there is none; `n` states it. Of a Table it is
@@ -173,7 +173,7 @@ class Production(NamedTuple):
     rounds: int
 
 
-@_record(rises="the rise of each sector's production", rounds="the count of rounds, the larger of the two demands")
+@_record(rises="the rise of each sector's production", rounds="the larger count of rounds of the two demands")
 class Impact(NamedTuple):
     """What a second demand adds to the production of a first."""
 
@@ -198,7 +198,7 @@ class Induced(NamedTuple):
 
 
 @_record(cells="the inverse, a matrix, in millionths", power="the power of dispersion of each sector, in millionths",
-         sensitivity="the sensitivity of dispersion of each sector, in millionths", rounds="the count of rounds, the largest of a column")
+         sensitivity="the sensitivity of dispersion of each sector, in millionths", rounds="the largest count of rounds of a column")
 class Inverse(NamedTuple):
     """The Leontief inverse with its ratios."""
 
@@ -209,9 +209,10 @@ class Inverse(NamedTuple):
 
 
 @_record(sectors="n, the number of sectors", named="how many cells its file names; of a table that is from no file, how many are not 0",
-         flows="what each sector buys from each, a matrix", final_demand="final demand inside the region for each sector's goods",
-         exports="exports of each sector's goods", imports="imports of each sector's goods, as positive numbers",
-         value_added="value added of each sector", production="production of each sector",
+         flows="a matrix: in row i and column j, what sector j buys from sector i",
+         final_demand="final demand inside the region for each sector's goods", exports="exports of each sector's goods",
+         imports="imports of each sector's goods, as positive numbers", value_added="value added of each sector",
+         production="production of each sector",
          adjustment="adjustment item of each sector, the tax on indirect exports",
          rises="a production rise of each sector, which no figure uses")
 class Table(NamedTuple):
