@@ -732,6 +732,8 @@ class Merging(Refusing):
         self.assertEqual(self.refused(2, 0, t.aggregate, self.WORKED._replace(imports=[0], exports=[1, 2, 3]), []),
                          "n is 2, the sectors of the table; exports has length 3, not 2; imports has length 1, not 2; "
                          "groups has length 0, not 1 to 2")
+        self.assertEqual(self.refused(2, 0, t.aggregate, self.WORKED._replace(imports=[0]), [[0], [1]]),
+                         "n is 2, the sectors of the table; imports has length 1, not 2")
         # the rises are no part of it
         self.assertEqual(t.aggregate(self.WORKED._replace(rises=[2**64]), [[0, 1]]), t.aggregate(self.WORKED, [[0, 1]]))
 
@@ -1109,8 +1111,8 @@ amounts: list[int] = made.amounts
 merged: tawqeshim.Table = tawqeshim.aggregate(table, [[0, 1]]).table
 tawqeshim.coefficients(*table[2:9])
 """
-    WRONG = ["rounds: str = made.rounds", "tawqeshim.production(domestic, {0: 625, 1: 1280})", "tawqeshim.coefficients(flows)",
-             "tawqeshim.coefficients(table, [500, 900])"]
+    WRONG = ["rounds: str = made.rounds", "demand: str = sheets.demand", "tawqeshim.production(domestic, {0: 625, 1: 1280})",
+             "tawqeshim.coefficients(flows)", "tawqeshim.coefficients(table, [500, 900])"]
 
     @unittest.skipUnless(shutil.which("mypy"), "mypy is not installed")
     def test_mypy(self):
