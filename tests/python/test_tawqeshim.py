@@ -831,7 +831,8 @@ class Budgets(Refusing):
 
     def test_defaults(self):
         header = (ROOT / "include/tawqeshim.h").read_text()
-        for name, budget, calls in [("PRODUCTION", t.PRODUCTION_BUDGET, (t.production, t.impact)), ("PRICE", t.PRICE_BUDGET, (t.price, t.inverse))]:
+        for name, budget, calls in [("PRODUCTION", t.PRODUCTION_BUDGET, (t.production, t.impact)),
+                                    ("PRICE", t.PRICE_BUDGET, (t.price, t.inverse))]:
             self.assertIn(f"TAWQESHIM_{name}_BUDGET UINT32_C({budget})", header)
             for call in calls:
                 self.assertEqual(inspect.signature(call).parameters["budget"].default, budget)
