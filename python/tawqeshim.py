@@ -86,7 +86,7 @@ from pathlib import Path
 from typing import Any, Callable, NamedTuple, NoReturn, Optional, Protocol, TypeVar, Union, cast, overload
 
 # tawqeshim/py.typed, beside this file, tells type checkers that it is typed. Python imports this file: the folder has no __init__.py.
-__version__ = "3.1.0"
+__version__ = "3.2.0"
 __all__ = ["PRODUCTION_BUDGET", "PRICE_BUDGET", "QUESTIONS", "Refused", "Coefficients", "Production", "Impact", "Prices", "Induced",
            "Inverse", "Table", "Aggregate", "coefficients", "aggregate", "production", "impact", "price", "implied_demand", "induced",
            "inverse", "row", "read_table", "write_table", "page"]
@@ -758,6 +758,9 @@ def impact(domestic: "Matrix", before: "Column", after: "Column", budget: int = 
 
     No sector falls, each rises by at least what was added to it, and all n sectors together rise by less than 20 * T + 20 * n, with T the
     total added. Equal demands give 0 in every sector. The default budget always suffices.
+
+    Both are demands for domestic goods. A scheme is final demand, of which the import share is bought elsewhere: with F the final demand
+    with the scheme and m, E and G of the table, `after` is (one - m) * F / one, rounded down, plus E and G, in each sector.
 
     >>> domestic = [[75_000, 150_000], [240_000, 240_000]]
     >>> impact(domestic, [625, 1280], [635, 1280])
