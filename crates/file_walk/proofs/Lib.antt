@@ -1,4 +1,2 @@
-pub mod WalkLaws
-pub mod NameLaws
 pub mod CellLaws
 pub mod Loops

@@ -10,17 +10,11 @@ use Rattle.model.specs.File.{Entry, marked, markTotal, Reading, walk, reading, 
 use Rattle.model.specs.declared.TableRead.the-variants.{Read, Refused}
 use Rattle.theory_files.proofs.Marks.{named-total}
 use Rattle.marks.proofs.MarkLaws.{marked-none}
-use Rattle.file_walk.specs.declared.Step.the-variants.{Stop, End, Cell}
-use Rattle.file_walk.specs.Steps.{Held, Agrees, Kept, Names, Asked, Accepts}
-use Rattle.file_walk.proofs.WalkLaws.{one-more}
+use Rattle.file_steps.specs.declared.Step.the-variants.{Stop, End, Cell}
+use Rattle.file_steps.specs.Steps.{Asked}
+use Rattle.file_walk.specs.Steps.{Held, Kept, Accepts}
+use Rattle.file_steps.proofs.WalkLaws.{one-more}
 use Rattle.file_walk.proofs.CellLaws.{held-none, held-refused}
-
--- a cell by its word, its position and its amount
-as-entry : (e : Entry) (l p a : ℕ) → l ≡ e .word → p ≡ e .position → a ≡ e .amount → record { word = l; position = p; amount = a } ≡ e
-as-entry e l p a x y z =
-    ap (λ (k : ℕ). record { word = k; position = p; amount = a }) x
-    ∙ ap (λ (k : ℕ). record { word = e .word; position = k; amount = a }) y
-    ∙ ap (λ (k : ℕ). record { word = e .word; position = e .position; amount = k }) z
 
 -- a cell that is marked and stored
 pub keeps :
@@ -34,14 +28,6 @@ keeps n es cells marks cells' marks' e m h w k = record {
     words = w;
   };
 }
-
--- the step at a record whose cell is e, by the cell's three numbers
-pub takes : (s : List ℕ) (n at : ℕ) (marks : List ℕ) (e : Entry) (l p a next : ℕ) → l ≡ e .word → p ≡ e .position → a ≡ e .amount
-    → ((fuel : ℕ) (es : List Entry) → Agrees es marks → walk (suc fuel) s n es at ≡ walk fuel s n (e ∷ es) next) → Names s n at e next
-    → Asked s n at marks (Cell l p a next)
-takes s n at marks e l p a next x y z w m =
-    let same = as-entry e l p a x y z in
-    (λ fuel es g. w fuel es g ∙ ap (λ (d : Entry). walk fuel s n (d ∷ es) next) (sym same), subst (λ (d : Entry). Names s n at d next) (sym same) m)
 
 pub keeps-none : (n : ℕ) (cells marks : List ℕ) → cells ≡ replicate cellLimit 0 → marks ≡ replicate wordLimit 0 → Kept n [] cells marks
 keeps-none n cells marks x y = record {

@@ -4,7 +4,7 @@ use Prim.Native.Nat.{ℕ}
 use borrow.Author.Needs.{needs}
 use lib.ListN.{replicate}
 use Rattle.model.specs.File.{reading}
-use Rattle.file_walk.specs.declared.Walked.{Walked}
+use Rattle.file_steps.specs.declared.Walked.{Walked}
 use Rattle.file_walk.specs.Steps.{Ends}
 use Rattle.file_walk.proofs.Loops.{cleared-refused, counted}
 use Rattle.file_walk.proofs.answer.Statement.{statement}

@@ -5,8 +5,8 @@ use native.Mathlib.Omega.{arith}
 use borrow.Author.Needs.{needs}
 use lib.ListN.{length}
 use Rattle.model.specs.File.{cellLimit, wordLimit}
-use Rattle.file_walk.specs.declared.Step.{Step}
-use Rattle.file_walk.specs.Steps.{Asked}
+use Rattle.file_steps.specs.declared.Step.{Step}
+use Rattle.file_steps.specs.Steps.{Asked}
 use Rattle.file_walk.proofs.Loops.{Walking, starts, stopped, finished, goes-on}
 use Rattle.file_walk.proofs.walk.Statement.{statement}
 use Rattle.file_walk.proofs.walk.Tie as tie

@@ -2,8 +2,9 @@
 use mathlib.Core.Path.{_≡_, sym, subst}
 use borrow.Author.Needs.{needs}
 use Rattle.model.specs.File.{Reading}
-use Rattle.file_walk.specs.declared.Walked.{Walked}
-use Rattle.file_walk.specs.Steps.{Ends, Opened}
+use Rattle.file_steps.specs.declared.Walked.{Walked}
+use Rattle.file_steps.specs.Steps.{Opened}
+use Rattle.file_walk.specs.Steps.{Ends}
 use Rattle.file_walk.proofs.Loops.{keeps-none}
 use Rattle.file_walk.proofs.walk_file.Statement.{statement}
 use Rattle.file_walk.proofs.walk_file.Tie as tie

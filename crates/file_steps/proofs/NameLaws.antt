@@ -1,17 +1,18 @@
--- A whole record that names a cell, and is inside, names a cell that the table has. Assumes nothing.
+-- A whole record that names a cell, and is inside, names a cell that the table has; the step at it. Assumes nothing.
 use mathlib.Core.Bool.{Bool, true, false, cond, false≢true}
-use mathlib.Core.List.{List}
-use mathlib.Core.Path.{_≡_, ap}
-use Prim.Native.Nat.{ℕ, _+_, _≤_}
+use mathlib.Core.List.{List, _∷_}
+use mathlib.Core.Path.{_≡_, sym, ap, _∙_, subst}
+use Prim.Native.Nat.{ℕ, suc, _+_, _≤_}
 use native.Mathlib.Omega.{arith}
 use borrow.Author.Tests.{ne-eqb}
 use lib.ListN.{length}
 use Rattle.model.specs.Numbers.{cell}
 use Rattle.model.specs.Table.{sectorLimit}
-use Rattle.model.specs.File.{recordLengths, kindAt, isFlow, insideAt, entryAt}
+use Rattle.model.specs.File.{Entry, walk, recordLengths, kindAt, isFlow, insideAt, entryAt}
 use Rattle.theory_files.proofs.RecordKinds.{Taken, body, record-size, taken}
 use Rattle.file_records.specs.Bodies.{Body}
-use Rattle.file_walk.specs.Steps.{Begun, Naming, Names}
+use Rattle.file_steps.specs.declared.Step.the-variants.{Cell}
+use Rattle.file_steps.specs.Steps.{Agrees, Begun, Naming, Names, Asked}
 
 module _ (s : List ℕ) (at : ℕ) (b : Begun s at) where
   -- the first record has 2 bytes
@@ -36,3 +37,18 @@ module _ (s : List ℕ) (at : ℕ) (b : Begun s at) where
       names-of size e =
           let p = body s at (b .whole) in
           record { within = named .within; onward = omega (arith, p .0); inside = omega (arith, p .1) }
+
+-- a cell by its word, its position and its amount
+as-entry : (e : Entry) (l p a : ℕ) → l ≡ e .word → p ≡ e .position → a ≡ e .amount → record { word = l; position = p; amount = a } ≡ e
+as-entry e l p a x y z =
+    ap (λ (k : ℕ). record { word = k; position = p; amount = a }) x
+    ∙ ap (λ (k : ℕ). record { word = e .word; position = k; amount = a }) y
+    ∙ ap (λ (k : ℕ). record { word = e .word; position = e .position; amount = k }) z
+
+-- the step at a record whose cell is e, by the cell's three numbers
+pub takes : (s : List ℕ) (n at : ℕ) (marks : List ℕ) (e : Entry) (l p a next : ℕ) → l ≡ e .word → p ≡ e .position → a ≡ e .amount
+    → ((fuel : ℕ) (es : List Entry) → Agrees es marks → walk (suc fuel) s n es at ≡ walk fuel s n (e ∷ es) next) → Names s n at e next
+    → Asked s n at marks (Cell l p a next)
+takes s n at marks e l p a next x y z w m =
+    let same = as-entry e l p a x y z in
+    (λ fuel es g. w fuel es g ∙ ap (λ (d : Entry). walk fuel s n (d ∷ es) next) (sym same), subst (λ (d : Entry). Names s n at d next) (sym same) m)

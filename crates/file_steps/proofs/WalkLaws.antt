@@ -9,7 +9,7 @@ use lib.ListN.{length}
 use Rattle.model.specs.Numbers.{cell}
 use Rattle.model.specs.Table.{fewSectors}
 use Rattle.model.specs.File.{Entry, kindAt, nextAt, wholeAt, insideAt, entryAt, namedBefore, Reading, walk, walkWith, reading, readingWith}
-use Rattle.file_walk.specs.Steps.{Begun, Naming}
+use Rattle.file_steps.specs.Steps.{Begun, Naming}
 
 module _ (s : List ℕ) (n at fuel : ℕ) (es : List Entry) where
   abbrev here : Reading

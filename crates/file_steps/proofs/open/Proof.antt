@@ -1,4 +1,4 @@
--- `file_walk::open` meets its contract. Assumes nothing.
+-- `file_steps::open` meets its contract. Assumes nothing.
 use mathlib.Core.Bool.{true}
 use mathlib.Core.List.{[]}
 use mathlib.Core.Path.{_≡_, sym, ap, _∙_}
@@ -11,10 +11,10 @@ use Rattle.model.specs.Numbers.{cell}
 use Rattle.model.specs.Table.{sectorLimit, fewSectors}
 use Rattle.model.specs.File.{wholeAt, walk}
 use Rattle.theory.proofs.Lists.{from-one}
-use Rattle.file_walk.proofs.WalkLaws.{empty, first-broken, first-other, not-sized, opens}
-use Rattle.file_walk.proofs.NameLaws.{first-long}
-use Rattle.file_walk.proofs.open.Statement.{statement}
-use Rattle.file_walk.proofs.open.Tie as tie
+use Rattle.file_steps.proofs.WalkLaws.{empty, first-broken, first-other, not-sized, opens}
+use Rattle.file_steps.proofs.NameLaws.{first-long}
+use Rattle.file_steps.proofs.open.Statement.{statement}
+use Rattle.file_steps.proofs.open.Tie as tie
 
 -- past question 11, and past the kind
 abbrev entry : tie.Else2 → tie.Start

@@ -1,11 +1,11 @@
--- `file_walk::ask` meets its contract. Assumes nothing.
+-- `file_steps::ask` meets its contract. Assumes nothing.
 use mathlib.Core.Path.{sym, _∙_}
 use borrow.Author.Needs.{needs}
 use borrow.Author.Tests.{not-true, not-false}
-use Rattle.file_walk.specs.Steps.{Begun}
-use Rattle.file_walk.proofs.WalkLaws.{past, broken, second-first}
-use Rattle.file_walk.proofs.ask.Statement.{statement}
-use Rattle.file_walk.proofs.ask.Tie as tie
+use Rattle.file_steps.specs.Steps.{Begun}
+use Rattle.file_steps.proofs.WalkLaws.{past, broken, second-first}
+use Rattle.file_steps.proofs.ask.Statement.{statement}
+use Rattle.file_steps.proofs.ask.Tie as tie
 
 -- past question 11
 abbrev entry : tie.Else2 → tie.Start

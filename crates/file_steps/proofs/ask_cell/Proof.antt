@@ -1,4 +1,4 @@
--- `file_walk::ask_cell` meets its contract. Assumes nothing.
+-- `file_steps::ask_cell` meets its contract. Assumes nothing.
 use mathlib.Core.Bool.{true}
 use mathlib.Core.List.{List, _∷_}
 use mathlib.Core.Path.{_≡_, sym, ap, ap₂, _∙_}
@@ -9,12 +9,12 @@ use borrow.Author.Tests.{not-true, not-false}
 use Rattle.model.specs.File.{Entry, insideAt, entryAt, namedBefore, marked, walk}
 use Rattle.file_records.specs.Bodies.{Body}
 use Rattle.theory_files.proofs.RecordKinds.{Taken}
-use Rattle.file_walk.specs.Steps.{Agrees, Names}
-use Rattle.file_walk.proofs.WalkLaws.{outside, twice, fresh}
-use Rattle.file_walk.proofs.NameLaws.{bodied, named, names-of}
-use Rattle.file_walk.proofs.Loops.{takes}
-use Rattle.file_walk.proofs.ask_cell.Statement.{statement}
-use Rattle.file_walk.proofs.ask_cell.Tie as tie
+use Rattle.file_steps.specs.Steps.{Agrees, Names}
+use Rattle.file_steps.proofs.WalkLaws.{outside, twice, fresh}
+use Rattle.file_steps.proofs.NameLaws.{bodied, named, names-of}
+use Rattle.file_steps.proofs.NameLaws.{takes}
+use Rattle.file_steps.proofs.ask_cell.Statement.{statement}
+use Rattle.file_steps.proofs.ask_cell.Tie as tie
 
 body : (s : tie.Start) → Body (s .args .file .now) (s .args .at)
 body s = bodied (s .args .file .now) (s .args .at) (s .pre .2) (s .pre .3)

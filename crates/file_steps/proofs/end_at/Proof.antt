@@ -1,8 +1,8 @@
--- `file_walk::end_at` meets its contract. Assumes nothing.
+-- `file_steps::end_at` meets its contract. Assumes nothing.
 use borrow.Author.Needs.{needs}
-use Rattle.file_walk.proofs.WalkLaws.{ended, trailing}
-use Rattle.file_walk.proofs.end_at.Statement.{statement}
-use Rattle.file_walk.proofs.end_at.Tie as tie
+use Rattle.file_steps.proofs.WalkLaws.{ended, trailing}
+use Rattle.file_steps.proofs.end_at.Statement.{statement}
+use Rattle.file_steps.proofs.end_at.Tie as tie
 
 returns : tie.Need-returns
 returns c = let s = c .before in λ n marks fuel es a. ended (s .args .file .now) n (s .args .at) fuel es (s .pre .0) (s .pre .1) (c .if1 .taken)

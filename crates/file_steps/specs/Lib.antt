@@ -1,0 +1,2 @@
+-- What contracts of the steps cite beside the definitions of `model`.
+pub mod Steps
