@@ -4,7 +4,7 @@ use model::Answer;
 use model::ONE;
 use shares::portion_of;
 use shares::share_of;
-use table_checks::need_of;
+use table_balances::need_of;
 ghost use mathlib.Core.List.{[], _∷_};
 ghost use mathlib.Core.Path.{_≡_};
 ghost use Prim.Native.Nat.{ℕ, _+_, _*_, _-_, _<_, _≤_};

@@ -1,4 +1,4 @@
--- `table_checks::imports_covered` meets its contract: no sector before i imports more than it needs. Assumes nothing.
+-- `table_balances::imports_covered` meets its contract: no sector before i imports more than it needs. Assumes nothing.
 use mathlib.Core.List.{[], _∷_}
 use Prim.Native.Nat.{_-_}
 use native.Mathlib.Omega.{arith}
@@ -6,8 +6,8 @@ use borrow.Author.Tests.{lt-leb, le-leb}
 use Rattle.model.specs.Table.{tableOf}
 use Rattle.model.specs.Checks.{importsCovered}
 use Rattle.theory.proofs.Verdicts.{Scan, scan-none, scan-more, scan-failed-each, scan-passed}
-use Rattle.table_checks.proofs.imports_covered.Statement.{statement}
-use Rattle.table_checks.proofs.imports_covered.Tie as tie
+use Rattle.table_balances.proofs.imports_covered.Statement.{statement}
+use Rattle.table_balances.proofs.imports_covered.Tie as tie
 
 abbrev Inv-loop : tie.InvT-loop
 Inv-loop n x demand imports i₀ i = Scan (importsCovered (tableOf n x (demand ∷ [] ∷ imports ∷ []))) i

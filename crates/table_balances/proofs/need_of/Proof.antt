@@ -1,4 +1,4 @@
--- `table_checks::need_of` meets its contract: sum is the sum of the row's first j cells. Assumes nothing.
+-- `table_balances::need_of` meets its contract: sum is the sum of the row's first j cells. Assumes nothing.
 use mathlib.Core.Path.{_≡_, refl, ap}
 use Prim.Native.Nat.{ℕ, _+_, _*_, _≤_, _-_, _<_}
 use native.Mathlib.Nat.{le-trans}
@@ -7,8 +7,8 @@ use Rattle.model.specs.Numbers.{sum, at, cell}
 use Rattle.model.specs.Table.{absorption, sectorLimit}
 use Rattle.model.specs.Checks.{amountLimit}
 use Rattle.theory.proofs.Sums.{sum-more, sum-done, cell-in}
-use Rattle.table_checks.proofs.need_of.Statement.{statement}
-use Rattle.table_checks.proofs.need_of.Tie as tie
+use Rattle.table_balances.proofs.need_of.Statement.{statement}
+use Rattle.table_balances.proofs.need_of.Tie as tie
 
 abbrev Inv-loop : tie.InvT-loop
 Inv-loop n x demand i sum₀ j₀ s j = (j ≤ n) × (s ≡ sum j (at n x i)) × (s ≤ j * amountLimit)

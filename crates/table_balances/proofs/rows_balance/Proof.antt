@@ -1,4 +1,4 @@
--- `table_checks::rows_balance` meets its contract: every row before i balances. Assumes nothing.
+-- `table_balances::rows_balance` meets its contract: every row before i balances. Assumes nothing.
 use mathlib.Core.List.{[]}
 use mathlib.Core.Path.{_≡_, sym, ap, _∙_}
 use Prim.Native.Nat.{ℕ, _+_, _≤_, _-_}
@@ -8,8 +8,8 @@ use Rattle.model.specs.Numbers.{cell}
 use Rattle.model.specs.Table.{Table, tableBy, adjustedExports, need}
 use Rattle.model.specs.Checks.{amountLimit, rowBalances}
 use Rattle.theory.proofs.Verdicts.{Scan, scan-none, scan-more, scan-failed-each, scan-passed}
-use Rattle.table_checks.proofs.rows_balance.Statement.{statement}
-use Rattle.table_checks.proofs.rows_balance.Tie as tie
+use Rattle.table_balances.proofs.rows_balance.Statement.{statement}
+use Rattle.table_balances.proofs.rows_balance.Tie as tie
 
 abbrev Inv-loop : tie.InvT-loop
 Inv-loop n x demand exports imports production item i₀ i = Scan (rowBalances (tableBy n x demand exports imports [] production item)) i

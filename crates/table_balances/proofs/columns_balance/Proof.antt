@@ -1,4 +1,4 @@
--- `table_checks::columns_balance` meets its contract. Within a column sum is the sum of the cells above i; every column before j balances. Assumes
+-- `table_balances::columns_balance` meets its contract. Within a column sum is the sum of the cells above i; every column before j balances. Assumes
 -- nothing.
 use mathlib.Core.List.{[], _∷_}
 use mathlib.Core.Path.{_≡_, refl, sym, ap, _∙_}
@@ -11,8 +11,8 @@ use Rattle.model.specs.Table.{tableOf, sectorLimit}
 use Rattle.model.specs.Checks.{amountLimit, columnBalances}
 use Rattle.theory.proofs.Sums.{sum-more, sum-done, cell-in}
 use Rattle.theory.proofs.Verdicts.{Scan, scan-none, scan-more, scan-failed-each, scan-passed}
-use Rattle.table_checks.proofs.columns_balance.Statement.{statement}
-use Rattle.table_checks.proofs.columns_balance.Tie as tie
+use Rattle.table_balances.proofs.columns_balance.Statement.{statement}
+use Rattle.table_balances.proofs.columns_balance.Tie as tie
 
 abbrev Inv-loop : tie.InvT-loop
 Inv-loop n x value production j sum₀ i₀ s i = (i ≤ n) × (s ≡ sum i (transposed (at n x) j)) × (s ≤ i * amountLimit)
