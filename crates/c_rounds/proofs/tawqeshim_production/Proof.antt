@@ -1,8 +1,8 @@
--- `c_sheets::tawqeshim_production` meets its contract. Assumes nothing.
+-- `c_rounds::tawqeshim_production` meets its contract. Assumes nothing.
 use borrow.Author.Needs.{needs}
 use Rattle.c_answers.proofs.Numbers.{produced-told}
-use Rattle.c_sheets.proofs.tawqeshim_production.Statement.{statement}
-use Rattle.c_sheets.proofs.tawqeshim_production.Tie as tie
+use Rattle.c_rounds.proofs.tawqeshim_production.Statement.{statement}
+use Rattle.c_rounds.proofs.tawqeshim_production.Tie as tie
 
 returns : tie.Need-returns
 returns c = produced-told (c .tell-outcome .ensures) (c .before .before .before .before .before .before .before .before .production .ensures)

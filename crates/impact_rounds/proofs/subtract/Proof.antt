@@ -1,4 +1,4 @@
--- `impact::subtract` meets its contract: the cells below i are the rises, those from i on still the second production. Assumes nothing.
+-- `impact_rounds::subtract` meets its contract: the cells below i are the rises, those from i on still the second production. Assumes nothing.
 use mathlib.Core.Path.{_≡_, sym, ap, _∙_}
 use Prim.Native.Nat.{ℕ, _-_, _≤_}
 use native.Mathlib.Nat.{le-refl}
@@ -7,8 +7,8 @@ use lib.ListN.{length, length-set}
 use Rattle.model.specs.Numbers.{cell}
 use Rattle.model.specs.Promises.{added}
 use Rattle.theory.proofs.Lists.{Over, over-none, over-set, tabulated}
-use Rattle.impact.proofs.subtract.Statement.{statement}
-use Rattle.impact.proofs.subtract.Tie as tie
+use Rattle.impact_rounds.proofs.subtract.Statement.{statement}
+use Rattle.impact_rounds.proofs.subtract.Tie as tie
 
 abbrev Inv-loop : tie.InvT-loop
 Inv-loop n first out₀ i₀ out i = (i ≤ n) × (length out ≡ n) × Over out i (added first out₀) out₀

@@ -16,7 +16,7 @@ use Rattle.theory.proofs.Verdicts.{single-passed, single-accepted, refuse-on}
 use Rattle.theory_rounds.specs.Search.{Settlement}
 use Rattle.theory_rounds.proofs.Settling.{counted}
 use Rattle.theory_impacts.proofs.Rises.{none-falls}
-use Rattle.impact.specs.Comparing.{BothSettled}
+use Rattle.impact_rounds.specs.Comparing.{BothSettled}
 
 -- a start that settles: question 9 passes with its count, and the amounts are settled
 module _ (n : ℕ) (c : ℕ → ℕ → ℕ) (s : List ℕ) (budget : ℕ) {r : Outcome} {k : ℕ} {out work : List ℕ} (σ : Settlement n c s budget (reportRounds r) out work) (e : r ≡ Settled k) where

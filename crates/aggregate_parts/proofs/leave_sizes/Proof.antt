@@ -1,11 +1,11 @@
--- `aggregate::leave_sizes` meets its contract, by cases on the answer. Assumes nothing.
+-- `aggregate_parts::leave_sizes` meets its contract, by cases on the answer. Assumes nothing.
 use mathlib.Core.Bool.{true}
 use mathlib.Core.Path.{_≡_, ap}
 use borrow.Author.Needs.{needs}
 use Rattle.model.specs.Checks.{report}
 use Rattle.model.specs.declared.Answer.{Answer}
-use Rattle.aggregate.proofs.leave_sizes.Statement.{statement}
-use Rattle.aggregate.proofs.leave_sizes.Tie as tie
+use Rattle.aggregate_parts.proofs.leave_sizes.Statement.{statement}
+use Rattle.aggregate_parts.proofs.leave_sizes.Tie as tie
 
 -- where the answer is that the call was accepted
 accepted : (p : tie.After-enum-told) → report (p .before .before .before .before .args .answer) .accepted ≡ true

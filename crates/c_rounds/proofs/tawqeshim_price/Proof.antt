@@ -1,8 +1,8 @@
--- `c_sheets::tawqeshim_price` meets its contract. Assumes nothing.
+-- `c_rounds::tawqeshim_price` meets its contract. Assumes nothing.
 use borrow.Author.Needs.{needs}
 use Rattle.c_answers.proofs.Numbers.{priced-told}
-use Rattle.c_sheets.proofs.tawqeshim_price.Statement.{statement}
-use Rattle.c_sheets.proofs.tawqeshim_price.Tie as tie
+use Rattle.c_rounds.proofs.tawqeshim_price.Statement.{statement}
+use Rattle.c_rounds.proofs.tawqeshim_price.Tie as tie
 
 returns : tie.Need-returns
 returns c = priced-told (c .tell-outcome .ensures) (c .before .before .before .before .before .before .before .before .price .ensures)

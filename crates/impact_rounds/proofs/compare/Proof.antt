@@ -1,4 +1,4 @@
--- `impact::compare` meets its contract, by that of what it calls. Assumes nothing.
+-- `impact_rounds::compare` meets its contract, by that of what it calls. Assumes nothing.
 use mathlib.Core.List.{List}
 use mathlib.Core.Path.{_≡_, sym}
 use Prim.Native.Nat.{ℕ}
@@ -6,8 +6,8 @@ use borrow.Author.Needs.{needs}
 use lib.ListN.{length, replicate, take}
 use lib.Seq.{length-take-le}
 use Rattle.model.specs.Table.{sectorLimit}
-use Rattle.impact.proofs.compare.Statement.{statement}
-use Rattle.impact.proofs.compare.Tie as tie
+use Rattle.impact_rounds.proofs.compare.Statement.{statement}
+use Rattle.impact_rounds.proofs.compare.Tie as tie
 
 abbrev zeros : List ℕ
 zeros = replicate sectorLimit 0

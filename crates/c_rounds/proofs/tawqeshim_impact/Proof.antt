@@ -1,8 +1,8 @@
--- `c_sheets::tawqeshim_impact` meets its contract. Assumes nothing.
+-- `c_rounds::tawqeshim_impact` meets its contract. Assumes nothing.
 use borrow.Author.Needs.{needs}
 use Rattle.c_answers.proofs.Numbers.{compared-told}
-use Rattle.c_sheets.proofs.tawqeshim_impact.Statement.{statement}
-use Rattle.c_sheets.proofs.tawqeshim_impact.Tie as tie
+use Rattle.c_rounds.proofs.tawqeshim_impact.Statement.{statement}
+use Rattle.c_rounds.proofs.tawqeshim_impact.Tie as tie
 
 returns : tie.Need-returns
 returns c = compared-told (c .tell-outcome .ensures) (c .before .before .before .before .before .before .before .before .impact .ensures)

@@ -1,12 +1,12 @@
--- `impact::settle_both` meets its contract: each way out has its law. Assumes nothing.
+-- `impact_rounds::settle_both` meets its contract: each way out has its law. Assumes nothing.
 use mathlib.Core.Path.{_∙_, ap}
 use Prim.Native.Nat.{ℕ}
 use borrow.Author.Needs.{needs}
 use lib.ListN.{replicate}
 use Rattle.model.specs.Numbers.{at}
-use Rattle.impact.proofs.Comparing.{first-stops, second-stops, both-ordered, both-settle}
-use Rattle.impact.proofs.settle_both.Statement.{statement}
-use Rattle.impact.proofs.settle_both.Tie as tie
+use Rattle.impact_rounds.proofs.Comparing.{first-stops, second-stops, both-ordered, both-settle}
+use Rattle.impact_rounds.proofs.settle_both.Statement.{statement}
+use Rattle.impact_rounds.proofs.settle_both.Tie as tie
 
 abbrev entry : tie.After-settle → tie.Start
 entry q = q .before .before .before .before .before .before .before .before .before
