@@ -5,7 +5,7 @@ use borrow.Author.Needs.{needs}
 use lib.ListN.{length}
 use Rattle.model.specs.Page.{pageLimit}
 use Rattle.theory_pages.proofs.Pages.{page-fits}
-use Rattle.page.proofs.Prints.{call-stop, call-on}
+use Rattle.page.proofs.Buffers.{call-stop, call-on}
 use Rattle.page.proofs.write_page.Statement.{statement}
 use Rattle.page.proofs.write_page.Tie as tie
 

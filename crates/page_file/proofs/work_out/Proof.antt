@@ -1,4 +1,4 @@
--- `page::work_out` meets its contract, by cases on what was read and on the outcome. Assumes nothing.
+-- `page_file::work_out` meets its contract, by cases on what was read and on the outcome. Assumes nothing.
 use mathlib.Core.Path.{_≡_, sym, ap, subst, _∙_}
 use Prim.Native.Nat.{_-_, _≤_}
 use native.Mathlib.Omega.{arith}
@@ -9,10 +9,11 @@ use Rattle.model.specs.Checks.{reportRounds}
 use Rattle.model.specs.Page.{tablePage}
 use Rattle.model.specs.declared.TableRead.{TableRead}
 use Rattle.page_sheets.specs.Sheets.{tableIn}
-use Rattle.page.specs.Prints.{pageOf, Small}
-use Rattle.page.proofs.Prints.{table-stop, table-on, first-part}
-use Rattle.page.proofs.work_out.Statement.{statement}
-use Rattle.page.proofs.work_out.Tie as tie
+use Rattle.page_print.proofs.Prints.{first-part}
+use Rattle.page_file.specs.FilePages.{pageOf, Small}
+use Rattle.page_file.proofs.FilePages.{table-stop, table-on}
+use Rattle.page_file.proofs.work_out.Statement.{statement}
+use Rattle.page_file.proofs.work_out.Tie as tie
 
 abbrev start : tie.After-read2 → tie.Start
 start k = k .before .before .before .before .before .before .before

@@ -1,11 +1,12 @@
--- `page::file_page` meets its contract. Assumes nothing.
+-- `page_file::file_page` meets its contract. Assumes nothing.
 use mathlib.Core.Path.{_≡_, refl, _∙_}
 use borrow.Author.Needs.{needs}
 use Rattle.model.specs.Page.{page}
-use Rattle.page.specs.Prints.{textOf}
-use Rattle.page.proofs.Prints.{told, room, read-small, read-page}
-use Rattle.page.proofs.file_page.Statement.{statement}
-use Rattle.page.proofs.file_page.Tie as tie
+use Rattle.page_print.specs.Prints.{textOf}
+use Rattle.page_print.proofs.Prints.{told, room}
+use Rattle.page_file.proofs.FilePages.{read-small, read-page}
+use Rattle.page_file.proofs.file_page.Statement.{statement}
+use Rattle.page_file.proofs.file_page.Tie as tie
 
 work-out-requires : tie.Need-work-out-requires
 work-out-requires c κs =

@@ -1,4 +1,4 @@
--- `page::put_print` meets its contract. Assumes nothing.
+-- `page_print::put_print` meets its contract. Assumes nothing.
 use mathlib.Core.List.{List}
 use mathlib.Core.Path.{_≡_, sym, ap, subst, _∙_}
 use Prim.Native.Nat.{ℕ, _-_, _≤_}
@@ -7,11 +7,11 @@ use borrow.Author.Needs.{needs}
 use lib.ListN.{take}
 use Rattle.model.specs.Table.{sectorLimit}
 use Rattle.model.specs.Page.{refusalLine, sheet}
-use Rattle.page.specs.declared.Print.{Print}
-use Rattle.page.specs.Prints.{textOf, Few}
-use Rattle.page.proofs.Prints.{told, room, first-part, sheet-part}
-use Rattle.page.proofs.put_print.Statement.{statement}
-use Rattle.page.proofs.put_print.Tie as tie
+use Rattle.page_print.specs.declared.Print.{Print}
+use Rattle.page_print.specs.Prints.{textOf, Few}
+use Rattle.page_print.proofs.Prints.{told, room, first-part, sheet-part}
+use Rattle.page_print.proofs.put_print.Statement.{statement}
+use Rattle.page_print.proofs.put_print.Tie as tie
 
 abbrev text : tie.Start → Print → List ℕ
 text s r = let a = s .args in textOf r (a .f .now) (a .y .now) (a .value .now) (a .imports .now)

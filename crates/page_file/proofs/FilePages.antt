@@ -1,41 +1,25 @@
--- The text of what is printed is the page. Assumes nothing.
+-- What is worked out of a file is its page. Assumes nothing.
 use mathlib.Core.Path.{_≡_, refl, sym, ap, subst, _∙_}
 use mathlib.Core.List.{List, [], _∷_, _++_}
-use Prim.Native.Nat.{ℕ, _-_, _*_, _≤_, _<_}
+use Prim.Native.Nat.{ℕ, _*_, _≤_, _<_}
 use native.Mathlib.Nat.{mul-le-mul}
 use native.Mathlib.Omega.{arith}
 use lib.Dec.{lit<}
-use lib.ListN.{length, take, drop, replicate}
-use lib.Seq.{sets, take-at, take-take}
+use lib.ListN.{length, take, drop}
+use lib.Seq.{take-at, take-take}
 use Rattle.model.specs.Table.{Table, sectorLimit, sheetLimit}
 use Rattle.model.specs.Checks.{Report, accepts, refuses}
 use Rattle.model.specs.File.{Entry, Reading, reading, flowsOf, columnOf, answerOf, columnKinds, columnWord}
-use Rattle.model.specs.Contracts.{PagePrinted}
 use Rattle.model.specs.Figures.{figuresReport}
-use Rattle.model.specs.Page.{refusalLine, sheet, tableRead, tablePage, readingPage, page, pageLimit, pageReport}
+use Rattle.model.specs.Page.{refusalLine, sheet, tableRead, tablePage, readingPage, page}
 use Rattle.model.specs.declared.TableRead.{TableRead}
 use Rattle.theory_files.specs.Files.{inputLimit}
-use Rattle.theory_pages.proofs.Pages.{written, unwritten, never-nine}
-use Rattle.theory_pages.proofs.Unadjusted.{bytes-unadjusted}
 use Rattle.theory_files.proofs.RecordKinds.{place-back}
 use Rattle.theory_files.proofs.Readings.{Answered, reading-answered}
 use Rattle.file_walk.specs.Steps.{Held}
 use Rattle.page_sheets.specs.Sheets.{columnStart, tableIn}
 use Rattle.page_figures.specs.Stages.{Figures}
-use Rattle.page_production.proofs.Stages.{part}
-use Rattle.page.specs.Prints.{pageOf, Small}
-
--- ---- texts
--- a text was written from the start of l, which then is m, and j is its length
-abbrev pub Put : List ℕ → List ℕ → List ℕ → ℕ → Type 0
-Put text l m j = (j ≡ length text) × (m ≡ sets l 0 text)
-
--- the same text by another name
-pub told : {t u : List ℕ} (l : List ℕ) {m : List ℕ} {j : ℕ} → t ≡ u → Put t l m j → Put u l m j
-told l e p = (p .0 ∙ ap length e, p .1 ∙ ap (λ (x : List ℕ). sets l 0 x) e)
-
-pub room : {t u : List ℕ} {k : ℕ} → t ≡ u → length u ≤ k → length t ≤ k
-room {k = k} e h = subst (λ (x : List ℕ). length x ≤ k) (sym e) h
+use Rattle.page_file.specs.FilePages.{pageOf, Small}
 
 -- ---- a table's page by its figures
 module _ (t : Table) {s : Report} {f y b i : List ℕ} (w : Figures t s f y b i) where
@@ -59,14 +43,6 @@ module _ (t : Table) {s : Report} {f y b i : List ℕ} (w : Figures t s f y b i)
   table-on {k} fs ys bs is g lf ly lb li =
       let n = t .sectors in
       rw (take-at f fs n lf, take-at y ys n ly, take-at b bs n lb, take-at i is n li) (sheet-on g)
-
--- the first n of 40 cells
-pub first-part : (n : ℕ) (l : List ℕ) → n ≤ sectorLimit → length l ≡ sectorLimit → length (take (n - 0) l) ≡ n
-first-part n l few long = part n l (omega arith)
-
-pub sheet-part : (n : ℕ) (f y b i : List ℕ) (k : ℕ)
-    → sheet n (take (n - 0) f) (take (n - 0) y) (take (n - 0) b) (take (n - 0) i) k ≡ sheet n (take n f) (take n y) (take n b) (take n i) k
-sheet-part n f y b i k = let e : n - 0 ≡ n = omega arith in rw e refl
 
 -- ---- a file's page by what the reader answers and leaves in its cells
 answer-small : (o : Reading) (most : ℕ) → Answered most o → Small (answerOf o)
@@ -96,17 +72,3 @@ answer-page (Reading.table n es) most cells a h = ap tablePage (table-held n es 
 pub read-page : (s cells : List ℕ) {r : TableRead} → r ≡ answerOf (reading s) → Held (reading s) cells → pageOf r cells ≡ page s
 unfolding page
 read-page s cells e h = ap (λ (r : TableRead). pageOf r cells) e ∙ answer-page (reading s) inputLimit cells (reading-answered s) h
-
--- ---- the call, by the length of its buffer
-pub call-stop : (s l : List ℕ) {z : List ℕ} → (length l ≡ pageLimit → ⊥) → z ≡ replicate (length l) 0 → PagePrinted s l (refuses 1 2 0) z
-call-stop s l h e = record { answer = sym (unwritten (length l) s h); outputs = e; unadjusted = bytes-unadjusted s; enough = never-nine s }
-
-pub call-on : (s l : List ℕ) {z m : List ℕ} {j : ℕ} → length l ≡ pageLimit → z ≡ replicate (length l) 0 → Put (page s) z m j → PagePrinted s l (accepts (j ∷ [])) m
-call-on s l {z} {m} {j} h e p =
-    let w = written s in
-    record {
-      answer = ap (λ (k : ℕ). accepts (k ∷ [])) (p .0) ∙ sym (w .0) ∙ ap (λ (k : ℕ). pageReport k s) (sym h);
-      outputs = p .1 ∙ ap (λ (x : List ℕ). sets x 0 (page s)) (e ∙ ap (λ (k : ℕ). replicate k 0) h) ∙ sym (w .1);
-      unadjusted = bytes-unadjusted s;
-      enough = never-nine s;
-    }

@@ -1,0 +1,2 @@
+-- What contracts of a page cite beside the definitions of `model`.
+pub mod FilePages
