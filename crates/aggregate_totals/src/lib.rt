@@ -3,7 +3,7 @@ use cells::put_column;
 use marks::ones;
 use model::AMOUNT_LIMIT;
 use model::SECTORS;
-ghost use mathlib.Core.List.{[], _∷_};
+ghost use mathlib.Core.List.{[]};
 ghost use mathlib.Core.Path.{_≡_};
 ghost use Prim.Native.Nat.{ℕ, _*_, _<_, _≤_};
 ghost use lib.ListN.{length};

@@ -3,7 +3,7 @@
 use aggregate::aggregate;
 use c_answers::tell_answer;
 use coefficients::coefficients;
-ghost use mathlib.Core.List.{[], _∷_};
+ghost use mathlib.Core.List.{[]};
 ghost use lib.ListN.{length};
 ghost use Rattle.model.specs.Table.{tableBy};
 ghost use Rattle.model.specs.Checks.{reportTold};

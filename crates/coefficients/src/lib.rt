@@ -2,7 +2,6 @@
 use cells::output;
 use model::Answer;
 use table_filling::fill_sheets;
-ghost use mathlib.Core.List.{[], _∷_};
 ghost use Rattle.model.specs.Table.{tableBy};
 ghost use Rattle.model.specs.Checks.{report};
 ghost use Rattle.model.specs.Contracts.{Derived};

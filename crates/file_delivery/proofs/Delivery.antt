@@ -1,40 +1,17 @@
--- Question 2, and the parts of the reader's cells in the lent slices. Assumes nothing.
-use mathlib.Core.Bool.{Bool, true, false, _&&_}
+-- The parts of the reader's cells in the lent slices. Assumes nothing.
+use mathlib.Core.Bool.{Bool, true, false}
 use mathlib.Core.List.{List}
 use mathlib.Core.Logic.{_⊎_, inl, inr}
 use mathlib.Core.Path.{_≡_, refl, sym, ap, _∙_}
 use Prim.Native.Nat.{ℕ, _*_, _<_}
 use native.Mathlib.Decide.{ℕ-discrete}
 use native.Mathlib.Nat.{le-add-right}
-use borrow.Author.Tests.{eqb-true}
-use lib.Dec.{eqb}
 use lib.ListN.{take, drop, replicate}
-use Rattle.model.specs.Numbers.{all}
 use Rattle.model.specs.Table.{sectorLimit, sheetLimit}
-use Rattle.model.specs.File.{Reading, reading, fits, called, flowsRead, columnRead, kindPlace, columnWord, wordLimit}
-use Rattle.theory.specs.Slices.{Each}
-use Rattle.theory.proofs.Lists.{and-true, each-equal}
+use Rattle.model.specs.File.{Reading, fits, called, flowsRead, columnRead, kindPlace, columnWord, wordLimit}
 use Rattle.file_walk.specs.Steps.{Held}
-use Rattle.file_delivery.specs.Reader.{Put}
-
--- the slices have the lengths that are asked for
-abbrev pub Fit : ℕ → List ℕ → Type 0
-Fit x columns = (x ≡ sheetLimit) × Each sectorLimit columns
-
-module _ (x : ℕ) (columns : List ℕ) (k : ℕ) (s : List ℕ) where
-  pub called-fit : fits x columns k ≡ true → reading s ≡ called x columns k s
-  unfolding called
-  called-fit e = rw e refl
-
-  pub called-unfit : fits x columns k ≡ false → Reading.refused 2 0 ≡ called x columns k s
-  unfolding called
-  called-unfit e = rw e refl
-
-pub fit : (x : ℕ) (columns : List ℕ) (k : ℕ) → fits x columns k ≡ true → Fit x columns × (k ≡ wordLimit)
-fit x columns k q =
-    let a = and-true (eqb sheetLimit x && all (eqb sectorLimit) columns) (eqb wordLimit k) q in
-    let b = and-true (eqb sheetLimit x) (all (eqb sectorLimit) columns) (a .0) in
-    ((sym (eqb-true sheetLimit x (b .0)), each-equal sectorLimit columns (b .1)), sym (eqb-true wordLimit k (a .1)))
+use Rattle.file_cells.specs.Parts.{Put}
+use Rattle.file_cells.proofs.Sizes.{Fit, fit, called-unfit}
 
 -- either they have, or nothing is read
 pub fit-or-not : (x : ℕ) (columns : List ℕ) (k : ℕ) (s : List ℕ) (o : Reading) → o ≡ called x columns k s → Fit x columns ⊎ (o ≡ Reading.refused 2 0)

@@ -1,6 +1,6 @@
 // The reader of a table file. The walk works over cells of its own, one slice of 1,880; they are delivered at the end.
+use file_cells::read_called;
 use file_delivery::deliver;
-use file_delivery::read_called;
 use model::CELLS;
 use model::TableRead;
 ghost use Rattle.model.specs.Checks.{reportRead};

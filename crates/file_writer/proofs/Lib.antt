@@ -1,2 +1,1 @@
--- The file of a table, part by part.
-pub mod TableLaws
+pub mod Ways

@@ -9,7 +9,7 @@ use model::AMOUNT_LIMIT;
 use model::Answer;
 use model::ONE;
 use shares::portion_of;
-ghost use mathlib.Core.List.{[], _∷_, _++_};
+ghost use mathlib.Core.List.{[], _∷_};
 ghost use mathlib.Core.Path.{_≡_};
 ghost use Prim.Native.Nat.{ℕ, _*_, _<_, _≤_};
 ghost use lib.ListN.{length};

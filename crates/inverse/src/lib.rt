@@ -5,7 +5,6 @@ use inverse_columns::fill_inverse;
 use inverse_ratios::fill_dispersion;
 use model::Outcome;
 ghost use mathlib.Core.Path.{_≡_};
-ghost use Prim.Native.Nat.{_*_, _<_};
 ghost use Rattle.model.specs.Rounds.{hasRow, rowSlice};
 ghost use Rattle.model.specs.Checks.{reportRounds};
 ghost use Rattle.model.specs.Contracts.{Inverted};

@@ -1,7 +1,7 @@
 // Text into a lent buffer. Every function writes from `at` on, keeps every other byte, and answers the next free place.
 use bytes::put_byte;
 ghost use mathlib.Core.Path.{_≡_};
-ghost use mathlib.Core.List.{_++_, _∷_, [], map};
+ghost use mathlib.Core.List.{_∷_, map};
 ghost use Prim.Native.Nat.{_+_, _≤_};
 ghost use lib.ListN.{length};
 ghost use lib.Seq.{sets};

@@ -1,7 +1,7 @@
 // Shares in millionths: of a part in its whole, to the nearest, and what a share takes of an amount, rounded down.
 use model::ONE;
 ghost use mathlib.Core.Path.{_≡_};
-ghost use Prim.Native.Nat.{ℕ, _*_, _^_, _<_, _≤_};
+ghost use Prim.Native.Nat.{_*_, _^_, _<_, _≤_};
 ghost use Rattle.model.specs.Table.{nearest, portion, share};
 ghost use Rattle.model.specs.Checks.{amountLimit};
 

@@ -1,7 +1,7 @@
 -- `file_writer::write_table` meets its contract. Assumes nothing.
 use borrow.Author.Needs.{needs}
 use Rattle.model.specs.Contracts.{Slices, slicesOf}
-use Rattle.file_writer.proofs.TableLaws.{Asked, call-stop, call-ready, call-on}
+use Rattle.file_writer.proofs.Ways.{Asked, call-stop, call-ready, call-on}
 use Rattle.file_writer.proofs.write_table.Statement.{statement}
 use Rattle.file_writer.proofs.write_table.Tie as tie
 

@@ -1,10 +1,10 @@
--- `file_delivery::is_fit` meets its contract. Assumes nothing.
+-- `file_cells::is_fit` meets its contract. Assumes nothing.
 use mathlib.Core.Path.{refl, sym, _∙_}
 use borrow.Author.Needs.{needs}
 use borrow.Author.Tests.{eq-eqb, ne-eqb, not-true, not-false}
 use Rattle.model.specs.Table.{sheetLimit}
-use Rattle.file_delivery.proofs.is_fit.Statement.{statement}
-use Rattle.file_delivery.proofs.is_fit.Tie as tie
+use Rattle.file_cells.proofs.is_fit.Statement.{statement}
+use Rattle.file_cells.proofs.is_fit.Tie as tie
 
 returns : tie.Need-returns
 returns c = rw (ne-eqb sheetLimit (c .before .before .args .x) (c .if1 .taken)) refl

@@ -1,4 +1,4 @@
--- `file_writer::put_table` meets its contract: kind 1, then the rows, then the columns, then kind 8 are written. Assumes nothing.
+-- `file_layout::put_table` meets its contract: kind 1, then the rows, then the columns, then kind 8 are written. Assumes nothing.
 use mathlib.Core.List.{List, [], _∷_, _++_}
 use mathlib.Core.Path.{refl, _∙_}
 use Prim.Native.Nat.{ℕ, _+_, _≤_}
@@ -12,9 +12,9 @@ use Rattle.model.specs.Contracts.{slicesOf, tableFrom}
 use Rattle.model.specs.Writer.{rows, columnsByKind, written}
 use Rattle.theory.proofs.Stores.{Begun, begin, go-on, done, room, room-first}
 use Rattle.theory_archives.proofs.Holding.{Fit, by-kind, by-kind-long}
-use Rattle.file_writer.proofs.TableLaws.{wordsEncoded, table-parts}
-use Rattle.file_writer.proofs.put_table.Statement.{statement}
-use Rattle.file_writer.proofs.put_table.Tie as tie
+use Rattle.file_layout.proofs.TableLaws.{wordsEncoded, table-parts}
+use Rattle.file_layout.proofs.put_table.Statement.{statement}
+use Rattle.file_layout.proofs.put_table.Tie as tie
 
 abbrev table : tie.Start → Table
 table s =

@@ -1,11 +1,11 @@
--- `file_delivery::put_part` meets its contract. Assumes nothing.
+-- `file_cells::put_part` meets its contract. Assumes nothing.
 use mathlib.Core.Path.{_≡_, ap, _∙_}
 use Prim.Native.Nat.{ℕ, _+_, _-_}
 use native.Mathlib.Omega.{arith}
 use borrow.Author.Needs.{needs}
 use lib.ListN.{take, drop}
-use Rattle.file_delivery.proofs.put_part.Statement.{statement}
-use Rattle.file_delivery.proofs.put_part.Tie as tie
+use Rattle.file_cells.proofs.put_part.Statement.{statement}
+use Rattle.file_cells.proofs.put_part.Tie as tie
 
 returns : tie.Need-returns
 returns c =

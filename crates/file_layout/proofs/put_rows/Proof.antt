@@ -1,4 +1,4 @@
--- `file_writer::put_rows` meets its contract: the rows before row i are written. Assumes nothing.
+-- `file_layout::put_rows` meets its contract: the rows before row i are written. Assumes nothing.
 use Prim.Native.Nat.{_+_, _*_, _-_, _≤_}
 use native.Mathlib.Omega.{arith}
 use borrow.Author.Needs.{needs}
@@ -7,9 +7,9 @@ use Rattle.model.specs.Writer.{rows}
 use Rattle.theory.proofs.Stores.{kept}
 use Rattle.theory_archives.proofs.Cells.{rows-count}
 use Rattle.cells.proofs.RowLaws.{row-within, row-length}
-use Rattle.file_writer.proofs.TableLaws.{Words, words-none, words-room, words-more, words-done, row-small, row-bytes}
-use Rattle.file_writer.proofs.put_rows.Statement.{statement}
-use Rattle.file_writer.proofs.put_rows.Tie as tie
+use Rattle.file_layout.proofs.TableLaws.{Words, words-none, words-room, words-more, words-done, row-small, row-bytes}
+use Rattle.file_layout.proofs.put_rows.Statement.{statement}
+use Rattle.file_layout.proofs.put_rows.Tie as tie
 
 abbrev Inv-loop : tie.InvT-loop
 Inv-loop n x at file₀ next₀ i₀ file next i = (i ≤ n) × Words 0 (rows n x) at file₀ i file next

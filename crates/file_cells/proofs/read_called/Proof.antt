@@ -1,4 +1,4 @@
--- `file_delivery::read_called` meets its contract. Assumes nothing.
+-- `file_cells::read_called` meets its contract. Assumes nothing.
 use mathlib.Core.Bool.{true}
 use mathlib.Core.Path.{_≡_, sym, ap, _∙_, subst}
 use Prim.Native.Nat.{ℕ}
@@ -8,9 +8,9 @@ use lib.ListN.{length, replicate}
 use Rattle.model.specs.File.{Reading, fits, answerOf, wordLimit}
 use Rattle.file_walk.specs.Steps.{Held}
 use Rattle.file_walk.proofs.CellLaws.{held-refused}
-use Rattle.file_delivery.proofs.Delivery.{fit, called-fit, called-unfit}
-use Rattle.file_delivery.proofs.read_called.Statement.{statement}
-use Rattle.file_delivery.proofs.read_called.Tie as tie
+use Rattle.file_cells.proofs.Sizes.{fit, called-fit, called-unfit}
+use Rattle.file_cells.proofs.read_called.Statement.{statement}
+use Rattle.file_cells.proofs.read_called.Tie as tie
 
 returns : tie.Need-returns
 returns c =

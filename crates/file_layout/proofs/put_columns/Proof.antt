@@ -1,4 +1,4 @@
--- `file_writer::put_columns` meets its contract: each call writes one column more. Assumes nothing.
+-- `file_layout::put_columns` meets its contract: each call writes one column more. Assumes nothing.
 use mathlib.Core.List.{List, [], _∷_}
 use mathlib.Core.Path.{refl}
 use Prim.Native.Nat.{ℕ, _+_, _≤_, _<_}
@@ -11,9 +11,9 @@ use Rattle.model.specs.Numbers.{cell}
 use Rattle.model.specs.Table.{sectorLimit}
 use Rattle.model.specs.Checks.{amountLimit}
 use Rattle.model.specs.File.{columnKinds, wordLimit}
-use Rattle.file_writer.proofs.TableLaws.{wordEncoded, Words, words-none, words-room, words-more, words-done}
-use Rattle.file_writer.proofs.put_columns.Statement.{statement}
-use Rattle.file_writer.proofs.put_columns.Tie as tie
+use Rattle.file_layout.proofs.TableLaws.{wordEncoded, Words, words-none, words-room, words-more, words-done}
+use Rattle.file_layout.proofs.put_columns.Statement.{statement}
+use Rattle.file_layout.proofs.put_columns.Tie as tie
 
 abbrev columns : tie.Start → List (List ℕ)
 columns s = let a = s .args in a .final-demand .now ∷ a .exports .now ∷ a .imports .now ∷ a .value-added .now ∷ a .production .now ∷ a .rises .now ∷ a .adjustment .now ∷ []

@@ -1,0 +1,2 @@
+-- What contracts cite beside the definitions of `model`.
+pub mod Parts
