@@ -58,8 +58,8 @@ What comes out
 
 n and budget
     The number of sectors is taken from the length of a column, or from the sheet where there is none; `n` states it. Of a Table it is
-    `sectors`. `budget` is the number of rounds allowed, 1,400 unless stated. 1,400 always suffice: question 9 refuses only where fewer are
-    allowed.
+    `sectors`. `budget` is the number of rounds allowed: PRODUCTION_BUDGET or PRICE_BUDGET unless stated. These always suffice: question 9
+    refuses only where fewer are allowed.
 
 Refusals
     A call asks questions of what it is given. The first whose answer is no raises Refused, with the number of the question and a place:

@@ -105,7 +105,7 @@ pub struct Report {
     pub broken: usize,
 }
 
-/// One slow sheet: a round less than its count is too few; with its count, 1,400 and any more it settles in that count.
+/// One slow sheet: a round less than its count is too few; with its count, the budget that suffices and any more it settles in that count.
 fn settles(call: Call, given: &[Vec<u64>], count: usize) -> Result<(), String> {
     let suffices = enough(call).ok_or("a call without rounds")?;
     for budget in [count as u32 - 1, count as u32, suffices, u32::MAX] {

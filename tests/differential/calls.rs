@@ -58,7 +58,7 @@ impl Call {
 
     /// The numbers the call can give. A row gives none; here 0 stands for a stretch, 1 for none.
     /// A page shows the number that refused; 2 is the call's own, for a buffer of another length. It
-    /// cannot show 1 and 8, nor 9, since its budget of 1,400 is enough for every table.
+    /// cannot show 1 and 8, nor 9, since its budget is enough for every table.
     pub fn numbers(self) -> &'static [u8] {
         match self {
             Call::Coefficients => &[0, 1, 2, 3, 4, 5, 6, 7, 16],
