@@ -97,12 +97,13 @@ abbrev balance : ℕ → List ℕ → List ℕ → List ℕ → Row
 balance n d s b = (accepts [] leaving (leftSide n d b ∷ [])) ⊳ (accepts [] leaving (rightSide n d s 1 b ∷ []))
 
 -- ---- the worked table
-abbrev workedTable : (imports adjustment : List ℕ) → Table
-workedTable imports adjustment =
+-- with these imports and this adjustment item
+abbrev workedWith : (imports adjustment : List ℕ) → Table
+workedWith imports adjustment =
     tableBy 2 (100 ∷ 400 ∷ 300 ∷ 600 ∷ []) (500 ∷ 900 ∷ []) (250 ∷ 560 ∷ []) imports (600 ∷ 1000 ∷ []) (1000 ∷ 2000 ∷ []) adjustment
 
 abbrev table : Table
-table = workedTable (250 ∷ 360 ∷ []) (0 ∷ 0 ∷ [])
+table = workedWith (250 ∷ 360 ∷ []) (0 ∷ 0 ∷ [])
 
 abbrev pub d : List ℕ
 d = 75000 ∷ 150000 ∷ 240000 ∷ 240000 ∷ []
@@ -165,7 +166,7 @@ buying = 0 ∷ 20000 ∷ 0 ∷ 10000 ∷ []
 abbrev tooMuch : List ℕ
 tooMuch = 0 ∷ 950000 ∷ 0 ∷ 1 ∷ []
 
--- one column of two sectors, and nothing in it
+-- what a call leaves in a column of two sectors; and what a refused one leaves of induced amounts
 abbrev leaves : ℕ → ℕ → List (List ℕ)
 leaves a b = (a ∷ b ∷ []) ∷ []
 
@@ -241,7 +242,7 @@ unfoldable pub adjustedRows : List Row
 adjustedRows =
     -- the worked table with an adjustment item of 50 and 90, and imports as much larger. Cut by the import share f(0) would be 635, in the divisor
     -- m(0) 285,714
-    coefficientsOf (workedTable (300 ∷ 450 ∷ []) (50 ∷ 90 ∷ []))
+    coefficientsOf (workedWith (300 ∷ 450 ∷ []) (50 ∷ 90 ∷ []))
     ⊳ (accepts [] leaving ((100000 ∷ 200000 ∷ 300000 ∷ 300000 ∷ []) ∷ (600000 ∷ 500000 ∷ []) ∷ (300000 ∷ 250000 ∷ []) ∷ (70000 ∷ 140000 ∷ 225000 ∷ 225000 ∷ []) ∷ (650 ∷ 1325 ∷ []) ∷ []))
     -- E plus G of exactly 1,000,000,000; one more is refused by 16 in its sector, also where 4 would refuse
     ∷ coefficientsOf (exporting (0 ∷ 999999999 ∷ []) (0 ∷ 1 ∷ []) (0 ∷ 1000000000 ∷ []) (0 ∷ 1000000000 ∷ []))
@@ -394,7 +395,7 @@ unfolding mergedRows aggregateReport groupTotal groupSizes absorption
 worked-merging = refl
 
 -- ---- question 2 of what is lent
--- a call with one length too many, in its last matrix and in its last column
+-- calls with one length that is too large, of the last matrix or of the last column
 abbrev wrongLengths : List Report
 wrongLengths =
     coefficientsReport table (4 ∷ 5 ∷ []) (2 ∷ 2 ∷ 2 ∷ []) ∷ coefficientsReport table (4 ∷ 4 ∷ []) (2 ∷ 2 ∷ 3 ∷ [])
