@@ -90,11 +90,12 @@ pub worked-lent :
 unfolding encode fileOf tableEntries written writerReport
 worked-lent = (refl, refl, refl)
 
--- Theorem, for the reader: the form of a written file. Cells ascend row by row, x before the columns. Cells in another order, a cell that stands twice,
--- and a cell of 0 are not in the form
+-- a named cell that a table of two sectors has
 inside : (word position amount : ℕ) → word < wordLimit → (word < sectorLimit → word < 2) → position < 2 → Within 2 (naming word position amount)
 inside word position amount k r p = record { known = k; row = r; place = p }
 
+-- Theorem, for the reader: the form of a written file. Cells ascend row by row, x before the columns. Cells in another order, a cell that stands twice,
+-- and a cell of 0 are not in the form
 pub worked-form :
     Ascending 2 0 (naming 0 1 1 ∷ naming 1 0 1 ∷ naming 40 0 1 ∷ [])
     × (Ascending 2 0 (naming 1 0 1 ∷ naming 0 1 1 ∷ []) → ⊥)
@@ -168,6 +169,12 @@ rows =
     ∷ (1 ∷ 2 ∷ 3 ∷ 1 ∷ 0 ∷ 0 ∷ 0 ∷ 0 ∷ 8 ∷ []) ⊳ Reading.table 2 (naming 40 0 0 ∷ [])
     ∷ []
 
+-- Theorem, for the reader: every file above is read as the paper states it
+pub refusals : map (λ (r : Row). reading (r .file)) rows ≡ map (λ (r : Row). r .stated) rows
+unfolding rows wholeAt insideAt entryAt walkWith readingWith
+refusals = refl
+
+-- ---- what the reader is lent
 -- Theorem, for the reader: 2 comes first: 1,600 cells for x, 40 for each of seven columns, and 47 words of marks
 pub worked-called :
     _≡_ {A = List Reading}
@@ -175,8 +182,3 @@ pub worked-called :
     (Reading.refused 15 0 ∷ Reading.refused 2 0 ∷ Reading.refused 2 0 ∷ Reading.refused 2 0 ∷ [])
 unfolding called readingWith
 worked-called = refl
-
--- Theorem, for the reader: every file above is read as the paper states it
-pub refusals : map (λ (r : Row). reading (r .file)) rows ≡ map (λ (r : Row). r .stated) rows
-unfolding rows wholeAt insideAt entryAt walkWith readingWith
-refusals = refl
