@@ -9,7 +9,7 @@ use Rattle.model.specs.Numbers.{one, tabulate, tabulateCells, cell, at, 
 use Rattle.model.specs.Table.{Table, tableBy, share, absorption, inputCoefficient, valueAddedCoefficient, importCoefficient, domesticCoefficient, domesticDemand}
 use Rattle.model.specs.Rounds.{weighted, intermediate, round, rounds, changes, settling, settled, impliedDemand, inducedValueAdded, inducedImports, unit, inverse, inverseRounds, dispersion, rowSlice, impact, impactRounds}
 use Rattle.model.specs.Checks.{Report, accepts, refuses, output, productionBudget, priceBudget}
-use Rattle.model.specs.Calls.{coefficientsReport, inputCoefficients, valueAddedCoefficients, importCoefficients, domesticCoefficients, domesticDemands, productionReport, priceReport, impliedReport, inducedReport, inverseReport, impactReport}
+use Rattle.model.specs.Calls.{coefficientsReport, inputCoefficients, valueAddedCoefficients, importCoefficients, domesticCoefficients, tableDemand, domesticDemandReport, productionReport, priceReport, impliedReport, inducedReport, inverseReport, impactReport}
 use Rattle.model.specs.Aggregation.{mergedTable, groupTotal, groupSizes, aggregateReport}
 
 -- what a call says, and its output slices after it
@@ -34,7 +34,7 @@ coefficientsOf t =
           ∷ output r n (valueAddedCoefficients t)
           ∷ output r n (importCoefficients t)
           ∷ output r (n * n) (domesticCoefficients t)
-          ∷ output r n (domesticDemands t)
+          ∷ output r n (tableDemand t)
           ∷ [];
     }
 
@@ -141,7 +141,7 @@ rows =
 
 -- Theorem, for the reader: every case above is answered as the paper states it
 pub worked : map (λ (r : Row). r .given) rows ≡ map (λ (r : Row). r .stated) rows
-unfolding rows coefficientsReport inputCoefficients valueAddedCoefficients importCoefficients domesticCoefficients domesticDemands productionReport priceReport impliedReport inverseReport absorption inputCoefficient valueAddedCoefficient importCoefficient domesticCoefficient domesticDemand intermediate round rounds changes settling settled impliedDemand unit inverse inverseRounds dispersion
+unfolding rows coefficientsReport inputCoefficients valueAddedCoefficients importCoefficients domesticCoefficients productionReport priceReport impliedReport inverseReport absorption inputCoefficient valueAddedCoefficient importCoefficient domesticCoefficient domesticDemand intermediate round rounds changes settling settled impliedDemand unit inverse inverseRounds dispersion
 worked = refl
 
 -- Theorem, for the reader: document 01, "Slips the worked table shows up", where no call shows them: the first sector after round 2, the rise of sector 1
@@ -256,8 +256,60 @@ adjustedRows =
 
 -- Theorem, for the reader: every case above is answered as stated
 pub worked-adjustment : map (λ (r : Row). r .given) adjustedRows ≡ map (λ (r : Row). r .stated) adjustedRows
-unfolding adjustedRows coefficientsReport inputCoefficients valueAddedCoefficients importCoefficients domesticCoefficients domesticDemands absorption inputCoefficient valueAddedCoefficient importCoefficient domesticCoefficient domesticDemand
+unfolding adjustedRows coefficientsReport inputCoefficients valueAddedCoefficients importCoefficients domesticCoefficients absorption inputCoefficient valueAddedCoefficient importCoefficient domesticCoefficient domesticDemand
 worked-adjustment = refl
+
+-- ---- the demand for domestic goods of a final demand
+abbrev demandOf : (n : ℕ) (m F E G : List ℕ) → Result
+demandOf n m F E G =
+    let r = domesticDemandReport n m F E G (n ∷ []) in
+    record { said = r; outputs = output r n (domesticDemand n m F E G) ∷ [] }
+
+-- with the worked table's import shares and exports, and an adjustment item of 0
+abbrev workedDemand : List ℕ → Result
+workedDemand F = demandOf 2 (250000 ∷ 200000 ∷ []) F (250 ∷ 560 ∷ []) (0 ∷ 0 ∷ [])
+
+-- an amount over the limit, a share over one, and the largest of each
+abbrev tooLarge : List ℕ
+tooLarge = 0 ∷ 1000000001 ∷ []
+
+abbrev overOne : List ℕ
+overOne = 0 ∷ 1000001 ∷ []
+
+abbrev large : List ℕ
+large = 0 ∷ 1000000000 ∷ []
+
+unfoldable pub demandRows : List Row
+demandRows =
+    -- of the table's own final demand its f; of 600 in place of 500 in sector 0, of which a quarter is imported
+    workedDemand (500 ∷ 900 ∷ []) ⊳ (accepts [] leaving (f ∷ []))
+    ∷ workedDemand (600 ∷ 900 ∷ []) ⊳ (accepts [] leaving leaves 700 1280)
+    -- with the adjustment item of the worked table's neighbour
+    ∷ demandOf 2 (300000 ∷ 250000 ∷ []) (500 ∷ 900 ∷ []) (250 ∷ 560 ∷ []) (50 ∷ 90 ∷ []) ⊳ (accepts [] leaving leaves 650 1325)
+    -- rounded down: two thirds of 1, and of 2; exports and the adjustment item whole where everything is imported
+    ∷ demandOf 2 (333333 ∷ 333333 ∷ []) (1 ∷ 2 ∷ []) (0 ∷ 0 ∷ []) (0 ∷ 0 ∷ []) ⊳ (accepts [] leaving leaves 0 1)
+    ∷ demandOf 2 (1000000 ∷ 1000000 ∷ []) (7 ∷ 7 ∷ []) (2 ∷ 0 ∷ []) (0 ∷ 3 ∷ []) ⊳ (accepts [] leaving leaves 2 3)
+    -- the largest: F and E, and F with E and G of 1,000,000,000 together. One more of G is refused by 16 in its sector
+    ∷ demandOf 2 (0 ∷ 0 ∷ []) large large (0 ∷ 0 ∷ []) ⊳ (accepts [] leaving leaves 0 2000000000)
+    ∷ demandOf 2 (0 ∷ 0 ∷ []) large (0 ∷ 999999999 ∷ []) (0 ∷ 1 ∷ []) ⊳ (accepts [] leaving leaves 0 2000000000)
+    ∷ demandOf 2 (0 ∷ 0 ∷ []) large large (0 ∷ 1 ∷ []) ⊳ (refuses 0 16 1 leaving leaves 0 0)
+    -- 3 through m, F, E and G, and before 16
+    ∷ demandOf 2 overOne tooLarge tooLarge tooLarge ⊳ (refuses 0 3 1 leaving leaves 0 0)
+    ∷ demandOf 2 (0 ∷ 1000000 ∷ []) tooLarge tooLarge tooLarge ⊳ (refuses 0 3 3 leaving leaves 0 0)
+    ∷ demandOf 2 (0 ∷ 0 ∷ []) large tooLarge tooLarge ⊳ (refuses 0 3 5 leaving leaves 0 0)
+    ∷ demandOf 2 (0 ∷ 0 ∷ []) large large tooLarge ⊳ (refuses 0 3 7 leaving leaves 0 0)
+    -- 1 before 2, and 2, of each slice, before 3
+    ∷ demandOf 0 (0 ∷ []) [] [] [] ⊳ (refuses 0 1 0 leaving ([] ∷ []))
+    ∷ demandOf 2 (1000001 ∷ []) large large large ⊳ (refuses 0 2 0 leaving leaves 0 0)
+    ∷ demandOf 2 overOne (0 ∷ []) large large ⊳ (refuses 0 2 0 leaving leaves 0 0)
+    ∷ demandOf 2 overOne large (0 ∷ []) large ⊳ (refuses 0 2 0 leaving leaves 0 0)
+    ∷ demandOf 2 overOne large large (0 ∷ []) ⊳ (refuses 0 2 0 leaving leaves 0 0)
+    ∷ []
+
+-- Theorem, for the reader: every case above is answered as stated
+pub worked-demand : map (λ (r : Row). r .given) demandRows ≡ map (λ (r : Row). r .stated) demandRows
+unfolding demandRows domesticDemandReport domesticDemand
+worked-demand = refl
 
 -- ---- document 02, ticket 6: a, v and m to the nearest millionth
 -- one sector without an adjustment item, by its x, F, E, M, V and X
@@ -281,7 +333,7 @@ nearestRows =
 
 -- Theorem, for the reader: every case above is answered as stated
 pub worked-nearest : map (λ (r : Row). r .given) nearestRows ≡ map (λ (r : Row). r .stated) nearestRows
-unfolding nearestRows coefficientsReport inputCoefficients valueAddedCoefficients importCoefficients domesticCoefficients domesticDemands absorption inputCoefficient valueAddedCoefficient importCoefficient domesticCoefficient domesticDemand
+unfolding nearestRows coefficientsReport inputCoefficients valueAddedCoefficients importCoefficients domesticCoefficients absorption inputCoefficient valueAddedCoefficient importCoefficient domesticCoefficient domesticDemand
 worked-nearest = refl
 
 -- Theorem, for the reader: "a share of 2 in 3 is now 666,667"; 1 in 2,000,000, 1 in 2,000,001, and a share in nothing
@@ -400,6 +452,7 @@ abbrev wrongLengths : List Report
 wrongLengths =
     coefficientsReport table (4 ∷ 5 ∷ []) (2 ∷ 2 ∷ 2 ∷ []) ∷ coefficientsReport table (4 ∷ 4 ∷ []) (2 ∷ 2 ∷ 3 ∷ [])
     ∷ aggregateReport threeSectors (5 ∷ 2 ∷ []) (9 ∷ []) (replicate 7 2) ∷ aggregateReport threeSectors (5 ∷ 2 ∷ []) (4 ∷ []) (replicate 6 2 ++ (3 ∷ []))
+    ∷ domesticDemandReport 2 overOne large large large (3 ∷ [])
     ∷ impliedReport 2 d f (3 ∷ [])
     ∷ inducedReport 2 idle (0 ∷ 0 ∷ []) (0 ∷ 0 ∷ []) (0 ∷ 0 ∷ []) (0 ∷ 0 ∷ []) (2 ∷ 3 ∷ [])
     ∷ productionReport 2 d f 9 (2 ∷ 3 ∷ [])
@@ -409,6 +462,6 @@ wrongLengths =
     ∷ []
 
 -- Theorem, for the reader: each of them is refused by 2, with its count of rounds at 0 where it has one
-pub worked-lengths : wrongLengths ≡ replicate 6 (refuses 0 2 0) ++ replicate 5 (refuses 1 2 0)
-unfolding coefficientsReport aggregateReport impliedReport inducedReport productionReport priceReport impactReport inverseReport absorption inputCoefficient importCoefficient domesticCoefficient domesticCoefficients groupTotal intermediate round rounds changes settling unit inverseRounds impactRounds
+pub worked-lengths : wrongLengths ≡ replicate 7 (refuses 0 2 0) ++ replicate 5 (refuses 1 2 0)
+unfolding coefficientsReport aggregateReport domesticDemandReport impliedReport inducedReport productionReport priceReport impactReport inverseReport absorption inputCoefficient importCoefficient domesticCoefficient domesticCoefficients groupTotal intermediate round rounds changes settling unit inverseRounds impactRounds
 worked-lengths = refl

@@ -6,7 +6,7 @@ use Prim.Native.Nat.{ℕ}
 use lib.Dec.{eqb}
 use Rattle.model.specs.Table.{absorption, inputCoefficient, valueAddedCoefficient, importCoefficient, domesticCoefficient, domesticDemand}
 use Rattle.model.specs.Rounds.{intermediate, round, rounds, changes, settling, settled, inducedValueAdded, inducedImports}
-use Rattle.model.specs.Calls.{coefficientsReport, inputCoefficients, valueAddedCoefficients, importCoefficients, domesticCoefficients, domesticDemands, productionReport, inducedReport}
+use Rattle.model.specs.Calls.{coefficientsReport, inputCoefficients, valueAddedCoefficients, importCoefficients, domesticCoefficients, productionReport, inducedReport}
 use Rattle.model.specs.File.{Entry, encode, fileOf, wholeAt, insideAt, entryAt, walkWith, readingWith}
 use Rattle.model.specs.Bytes.{bytes}
 use Rattle.model.specs.Text.{digits}
@@ -54,7 +54,7 @@ pub worked-pages : map (λ (r : Row). page (r .file)) pages ≡ map (λ (r : Row
 unfolding pages
     absorption inputCoefficient valueAddedCoefficient importCoefficient domesticCoefficient domesticDemand
     intermediate round rounds changes settling settled inducedValueAdded inducedImports
-    coefficientsReport inputCoefficients valueAddedCoefficients importCoefficients domesticCoefficients domesticDemands productionReport inducedReport
+    coefficientsReport inputCoefficients valueAddedCoefficients importCoefficients domesticCoefficients productionReport inducedReport
     encode fileOf wholeAt insideAt entryAt walkWith readingWith digits refusalLine tablePage page
 worked-pages = refl
 

@@ -5,7 +5,7 @@ use Prim.Native.Nat.{ℕ, _*_, _^_}
 use lib.Dec.{eqb, leb, ltb}
 use lib.ListN.{length}
 use Rattle.model.specs.Numbers.{Cells, Sheet, sum, all, tabulate, cell, matrix, bit}
-use Rattle.model.specs.Table.{Table, tableOf, flow}
+use Rattle.model.specs.Table.{Table, tableOf, exports, adjustment, flow}
 use Rattle.model.specs.Checks.{Report, Check, verdict, single, size, lengths, tableAmounts, exportsWithin, balanceChecks}
 
 -- "added": what the sectors of a group have together, f added up over the sectors below n that are in it
@@ -51,7 +51,7 @@ module _ (t : Table) (groups : Cells) where
 
   -- 19. the merged table's amounts are within their limit, and so is its E plus G: its questions 3 and 16, without a place
   abbrev pub mergedWithin : Check
-  mergedWithin = single 19 (verdict (tableAmounts mergedTable ++ (exportsWithin mergedTable ∷ [])) [] .accepted)
+  mergedWithin = single 19 (verdict (tableAmounts mergedTable ++ (exportsWithin (length groups) (exports mergedTable) (adjustment mergedTable) ∷ [])) [] .accepted)
 
   -- Merging asks 1, 2, 3, 16, 4, 5, 6, 18, 19; its results: `mergedTable` and `groupSizes`
   abbrev pub aggregateChecks : (matrices lent : List ℕ) → List Check

@@ -5,9 +5,9 @@ use mathlib.Core.List.{List, [], _∷_, _++_, map}
 use Prim.Native.Nat.{ℕ}
 use lib.ListN.{length}
 use Rattle.model.specs.Numbers.{Cells, Sheet, tabulate, at, matrix, transposed}
-use Rattle.model.specs.Table.{Table, inputCoefficient, valueAddedCoefficient, importCoefficient, domesticCoefficient, domesticDemand}
+use Rattle.model.specs.Table.{Table, inputCoefficient, valueAddedCoefficient, importCoefficient, domesticCoefficient, domesticDemand, finalDemand, exports, adjustment}
 use Rattle.model.specs.Rounds.{settling, inverseRounds, impactRounds}
-use Rattle.model.specs.Checks.{Report, Check, verdict, single, size, lengths, tableAmounts, inducedAmounts, balanceChecks, columnSums, bounded, demandLimit, riseLimit, productionTotal, settles, columnsSettle, demandLeft, demandChecks, bothSettle}
+use Rattle.model.specs.Checks.{Report, Check, verdict, single, size, lengths, tableAmounts, inducedAmounts, demandAmounts, exportsWithin, balanceChecks, columnSums, bounded, demandLimit, riseLimit, productionTotal, settles, columnsSettle, demandLeft, demandChecks, bothSettle}
 
 module _ (t : Table) where
   -- The results of sheets from a table: a, v, m, d and f
@@ -23,8 +23,8 @@ module _ (t : Table) where
   unfoldable pub domesticCoefficients : Cells
   domesticCoefficients = matrix (t .sectors) (domesticCoefficient t)
 
-  unfoldable pub domesticDemands : Cells
-  domesticDemands = tabulate (t .sectors) (domesticDemand t)
+  abbrev pub tableDemand : Cells
+  tableDemand = domesticDemand (t .sectors) importCoefficients (finalDemand t) (exports t) (adjustment t)
 
   -- what sheets from a table ask of the table itself, in order: 1, 2, 3, 16, 4, 5 and 6
   abbrev pub tableChecks : (matrices lent : List ℕ) → List Check
@@ -36,6 +36,12 @@ module _ (t : Table) where
   unfoldable pub coefficientsReport : (matrices lent : List ℕ) → Report
   coefficientsReport matrices lent =
       verdict (tableChecks matrices lent ++ (columnSums (t .sectors) (at (t .sectors) domesticCoefficients) ∷ [])) []
+
+-- The demand for domestic goods of a final demand asks 1, 2, 3, 16; its result: `domesticDemand n m F E G`
+unfoldable pub domesticDemandReport : (n : ℕ) (m F E G : Cells) (lent : List ℕ) → Report
+domesticDemandReport n m F E G lent =
+    let columns = length m ∷ length F ∷ length E ∷ length G ∷ lent in
+    verdict (size n ∷ lengths n [] columns ∷ demandAmounts m F E G ++ (exportsWithin n E G ∷ [])) []
 
 module _ (n : ℕ) (d : Cells) where
   -- Every call on a domestic sheet asks 1, 2 and 7 first

@@ -5,7 +5,7 @@ use Prim.Native.Nat.{ℕ, suc, _+_, _*_}
 use lib.Dec.{eqb, leb, ltb}
 use lib.ListN.{length, replicate}
 use Rattle.model.specs.Numbers.{Cells, Sheet, one, sum, first, all, cell, at, columnSum}
-use Rattle.model.specs.Table.{Table, fewSectors, flow, need, imports, valueAdded, production, adjustedExports}
+use Rattle.model.specs.Table.{Table, fewSectors, flow, need, exports, imports, valueAdded, production, adjustment, adjustedExports}
 use Rattle.model.specs.Rounds.{intermediate, settling, unit}
 use Rattle.model.specs.declared.Answer.{Answer}
 use Rattle.model.specs.declared.Answer.the-variants.{Accepted, Refused}
@@ -128,11 +128,15 @@ tableAmounts t = countedOn 0 (map (bounded 3 0 amountLimit) (t .flows ∷ t .col
 abbrev pub inducedAmounts : (a m v F : Cells) → List Check
 inducedAmounts a m v F = countedOn 0 (bounded 3 0 one a ∷ bounded 3 0 one m ∷ bounded 3 0 one v ∷ bounded 3 0 amountLimit F ∷ [])
 
-module _ (t : Table) where
-  -- 16. document 02, ticket 3, asked after 3: E plus G is within 1,000,000,000 in every sector
-  abbrev pub exportsWithin : Check
-  exportsWithin = each 16 (t .sectors) (λ i. leb (adjustedExports t i) amountLimit)
+-- for the demand for domestic goods the shares of m, then the amounts of F, E and G
+abbrev pub demandAmounts : (m F E G : Cells) → List Check
+demandAmounts m F E G = countedOn 0 (bounded 3 0 one m ∷ map (bounded 3 0 amountLimit) (F ∷ E ∷ G ∷ []))
 
+-- 16. document 02, ticket 3, asked after 3: E plus G is within 1,000,000,000 in every sector
+abbrev pub exportsWithin : (n : ℕ) (E G : Cells) → Check
+exportsWithin n E G = each 16 n (λ i. leb (adjustedExports E G i) amountLimit)
+
+module _ (t : Table) where
   -- 4. every column balances
   abbrev pub columnBalances : Check
   columnBalances =
@@ -143,7 +147,7 @@ module _ (t : Table) where
   abbrev pub rowBalances : Check
   rowBalances =
       each 5 (t .sectors)
-      (λ i. eqb (need t i + adjustedExports t i) (cell (production t) i + cell (imports t) i))
+      (λ i. eqb (need t i + adjustedExports (exports t) (adjustment t) i) (cell (production t) i + cell (imports t) i))
 
   -- 6. a sector's imports are at most its domestic need
   abbrev pub importsCovered : Check
@@ -151,7 +155,7 @@ module _ (t : Table) where
 
   -- what sheets from a table ask of its amounts together, in order: 16, 4, 5 and 6
   abbrev pub balanceChecks : List Check
-  balanceChecks = exportsWithin ∷ columnBalances ∷ rowBalances ∷ importsCovered ∷ []
+  balanceChecks = exportsWithin (t .sectors) (exports t) (adjustment t) ∷ columnBalances ∷ rowBalances ∷ importsCovered ∷ []
 
 -- 7. every column sum of domestic coefficients is at most 950,000
 abbrev pub columnLimit : ℕ

@@ -8,13 +8,13 @@ use mathlib.Core.List.{List, [], _∷_, _++_, map, reverse}
 use Prim.Native.Nat.{ℕ, _*_, _≤_, _<_}
 use lib.ListN.{length, getD, take, replicate}
 use Rattle.model.specs.Numbers.{Cells, sum, cell, at, transposed}
-use Rattle.model.specs.Table.{Table, tableOf, column}
+use Rattle.model.specs.Table.{Table, tableOf, tableBy, column, finalDemand, exports, adjustment, domesticDemand}
 use Rattle.model.specs.Bytes.{Bytes, padded}
 use Rattle.model.specs.Rounds.{settled, Settles, impliedDemand, inducedValueAdded, inducedImports, inverse, dispersion, settling, impact}
-use Rattle.model.specs.Checks.{Report, accepts, verdict, output, reportRead, roundsOf, sectorsOf, bytesOf, tableAmounts, columnSums, demandLimit, productionBudget, priceBudget}
-use Rattle.model.specs.Calls.{tableChecks, coefficientsReport, inputCoefficients, valueAddedCoefficients, importCoefficients, domesticCoefficients, domesticDemands, productionReport, priceReport, impliedReport, inducedReport, inverseReport, impactReport}
+use Rattle.model.specs.Checks.{Report, accepts, verdict, output, reportRead, roundsOf, sectorsOf, bytesOf, tableAmounts, columnSums, demandLimit, demandChecks, productionBudget, priceBudget}
+use Rattle.model.specs.Calls.{tableChecks, coefficientsReport, inputCoefficients, valueAddedCoefficients, importCoefficients, domesticCoefficients, tableDemand, domesticDemandReport, productionReport, priceReport, impliedReport, inducedReport, inverseReport, impactReport}
 use Rattle.model.specs.Aggregation.{mergedTable, groupSizes, aggregateReport}
-use Rattle.model.specs.Promises.{Equal, Distinguishes, Accurate, AccuratePrices, Returns, NotAbove, NowhereBelow, Rises, NearestShares, SameTotals}
+use Rattle.model.specs.Promises.{Equal, Distinguishes, Accurate, AccuratePrices, Returns, NotAbove, NowhereBelow, added, OrderedInside, Rises, NearestShares, SameTotals}
 use Rattle.model.specs.File.{Entry, Reading, reading, called, answerOf, flowsRead, columnRead, columnWord, fileLimit}
 use Rattle.model.specs.Writer.{tableEntries, written, fileBytes, writerReport, InForm, returned}
 use Rattle.model.specs.Page.{refusalLine, page, pageLimit, pageReport, pageBytes}
@@ -36,7 +36,7 @@ pub record Derived (t : Table) (a₀ v₀ m₀ d₀ f₀ : Cells) (r : Report) (
   pub values : v ≡ output r (length v₀) (valueAddedCoefficients t)
   pub imports : m ≡ output r (length m₀) (importCoefficients t)
   pub domestic : d ≡ output r (length d₀) (domesticCoefficients t)
-  pub demands : f ≡ output r (length f₀) (domesticDemands t)
+  pub demands : f ≡ output r (length f₀) (domesticDemand (t .sectors) (importCoefficients t) (finalDemand t) (exports t) (adjustment t))
   -- document 02, ticket 3: with G too, f is within the limit of question 8
   pub withinLimit : r .accepted ≡ true → (i : ℕ) → i < t .sectors → cell f i ≤ demandLimit
   -- and where G is 0, answer and sheets are those of document 01's formulas without it
@@ -45,6 +45,26 @@ pub record Derived (t : Table) (a₀ v₀ m₀ d₀ f₀ : Cells) (r : Report) (
   pub shares : r .accepted ≡ true → NearestShares t a v m
   -- "so the accuracy rule holds over the new sheets": for every production that d and f settle at
   pub accurate : r .accepted ≡ true → (k : ℕ) (y : Cells) → Settles (t .sectors) (at (t .sectors) d) f k y → Accurate (t .sectors) d f y
+
+-- The demand for domestic goods of a final demand F, with import shares m, exports E and an adjustment item G: the f of a table, also where no table has
+-- this F, as with a scheme in it. A `before` is a final demand that is nowhere above F, as that without the scheme
+pub record Demanded (n : ℕ) (m F E G out₀ : Cells) (r : Report) (out : Cells) : Type 0 where
+  pub answer : r ≡ domesticDemandReport n m F E G (length out₀ ∷ [])
+  pub outputs : out ≡ output r (length out₀) (domesticDemand n m F E G)
+  -- with m, F, E and G of a table whose sheets are given, it is accepted and is the table's f
+  pub ofTable : (x imports valueAdded production : Cells) (matrices lent : List ℕ)
+      → let t = tableBy n x F E imports valueAdded production G in
+      coefficientsReport t matrices lent .accepted ≡ true → m ≡ importCoefficients t → length out₀ ≡ n → (r ≡ accepts []) × (out ≡ tableDemand t)
+  -- it is within the limit of question 8
+  pub withinLimit : r .accepted ≡ true → (i : ℕ) → i < n → cell out i ≤ demandLimit
+  -- where a final demand is nowhere below another, its demand for domestic goods is nowhere below either
+  pub rises : r .accepted ≡ true → (before : Cells) → NowhereBelow n before F → NowhereBelow n (domesticDemand n m before E G) out
+  -- so `impact` of the two passes 8, 8 and 17
+  pub comparable : r .accepted ≡ true → (before : Cells) → NowhereBelow n before F
+      → verdict (demandChecks n (domesticDemand n m before E G) out) [] ≡ accepts []
+  -- what is added to it, of what is spent
+  pub parts : r .accepted ≡ true → (before : Cells) → NowhereBelow n before F
+      → OrderedInside n m (added before F) (added (domesticDemand n m before E G) out)
 
 -- A table t with its sectors merged by groups (document 02, ticket 7). What is lent for the merged table is u₀ before the call and u after it
 pub record Aggregated (t : Table) (groups : Cells) (u₀ : Table) (sizes₀ : Cells) (r : Report) (u : Table) (sizes : Cells) : Type 0 where

@@ -7,7 +7,7 @@ use Rattle.model.specs.Numbers.{Cells, at}
 use Rattle.model.specs.Table.{Table, finalDemand}
 use Rattle.model.specs.Rounds.{settled, inducedValueAdded, inducedImports}
 use Rattle.model.specs.Checks.{Report, accepts, refuses, roundsOf, productionBudget}
-use Rattle.model.specs.Calls.{coefficientsReport, inputCoefficients, valueAddedCoefficients, importCoefficients, domesticCoefficients, domesticDemands, productionReport, inducedReport}
+use Rattle.model.specs.Calls.{coefficientsReport, inputCoefficients, valueAddedCoefficients, importCoefficients, domesticCoefficients, tableDemand, productionReport, inducedReport}
 
 -- "works with budget 1,400", which settles every production
 abbrev pub pageBudget : ℕ
@@ -43,15 +43,15 @@ module _ (t : Table) (f : Cells) where
 -- of a table's own demand for domestic goods
 module _ (t : Table) where
   abbrev pub figuresProduction : Cells
-  figuresProduction = productionFrom t (domesticDemands t)
+  figuresProduction = productionFrom t (tableDemand t)
 
   abbrev pub figuresValue : Cells
-  figuresValue = valueFrom t (domesticDemands t)
+  figuresValue = valueFrom t (tableDemand t)
 
   abbrev pub figuresImports : Cells
-  figuresImports = importsFrom t (domesticDemands t)
+  figuresImports = importsFrom t (tableDemand t)
 
   unfoldable pub figuresReport : Report
   figuresReport =
       let n = t .sectors in
-      reportFrom t (domesticDemands t) (coefficientsReport t (n * n ∷ n * n ∷ []) (n ∷ n ∷ n ∷ []))
+      reportFrom t (tableDemand t) (coefficientsReport t (n * n ∷ n * n ∷ []) (n ∷ n ∷ n ∷ []))

@@ -7,7 +7,7 @@ use lib.ListN.{length}
 use Rattle.model.specs.Numbers.{Cells, cell}
 use Rattle.model.specs.Table.{Table, sectorLimit}
 use Rattle.model.specs.Checks.{Report, roundsOf, verdict, single}
-use Rattle.model.specs.Calls.{domesticDemands}
+use Rattle.model.specs.Calls.{tableDemand}
 use Rattle.model.specs.Figures.{productionFrom, valueFrom, importsFrom, figuresReport}
 use Rattle.model.specs.File.{Entry, Reading, reading, tableNamed}
 use Rattle.model.specs.Bytes.{Bytes, bytes, padded}
@@ -50,7 +50,7 @@ pageFrom t f r = orRefusal r (sheet (t .sectors) f (productionFrom t f) (valueFr
 
 unfoldable pub tablePage : Table → Bytes
 unfolding refusalLine sheet figuresReport
-tablePage t = pageFrom t (domesticDemands t) (figuresReport t)
+tablePage t = pageFrom t (tableDemand t) (figuresReport t)
 
 -- ---- the page of a file
 -- the table that a reading names: F, E, M, V, X and G are its first columns

@@ -5,7 +5,7 @@ use mathlib.Core.Logic.{_↔_}
 use Prim.Native.Nat.{ℕ, _+_, _*_, _-_, _≤_, _<_}
 use lib.ListN.{length}
 use Rattle.model.specs.Numbers.{Cells, Sheet, one, sum, cell, at, transposed, columnSum, allCells}
-use Rattle.model.specs.Table.{Table, sectorLimit, column, imports, valueAdded, production, flow, need}
+use Rattle.model.specs.Table.{Table, sectorLimit, portion, column, imports, valueAdded, production, flow, need}
 use Rattle.model.specs.Checks.{columnLimit}
 use Rattle.model.specs.Rounds.{Settles, ExactBalance, shortfall}
 
@@ -59,6 +59,16 @@ NowhereBelow n s t = (i : ℕ) → i < n → cell s i ≤ cell t i
 -- what is added to sector i from the start s to the start t. Below 0 a difference counts as 0, but t is nowhere below s
 abbrev pub added : Cells → Cells → ℕ → ℕ
 added s t i = cell t i - cell s i
+
+-- What is ordered inside the region of what is spent on the goods of each sector, with import shares m
+pub record OrderedInside (n : ℕ) (m : Cells) (spent ordered : ℕ → ℕ) : Type 0 where
+  -- nowhere more than is spent
+  pub atMost : (i : ℕ) → i < n → ordered i ≤ spent i
+  -- and all of it where nothing is imported
+  pub whole : (i : ℕ) → i < n → cell m i ≡ 0 → ordered i ≡ spent i
+  -- it is what is not imported of the spending, rounded down, or one more: both demands are rounded
+  pub atLeast : (i : ℕ) → i < n → portion (one - cell m i) (spent i) ≤ ordered i
+  pub near : (i : ℕ) → i < n → ordered i ≤ portion (one - cell m i) (spent i) + 1
 
 -- r is the rise from the amounts y to the amounts z, which are settled from the starts s and t
 pub record Rises (n : ℕ) (s t y z r : Cells) : Type 0 where

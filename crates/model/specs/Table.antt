@@ -5,7 +5,7 @@ use mathlib.Core.List.{List, [], _∷_}
 use Prim.Native.Nat.{ℕ, _+_, _*_, _-_, _/_}
 use lib.Dec.{leb}
 use lib.ListN.{getD}
-use Rattle.model.specs.Numbers.{Cells, Sheet, one, sum, cell, at}
+use Rattle.model.specs.Numbers.{Cells, Sheet, one, sum, tabulate, cell, at}
 
 -- "n sectors, 1 to 40"
 abbrev pub sectorLimit : ℕ
@@ -56,9 +56,9 @@ module _ (t : Table) where
   abbrev pub adjustment : Cells
   adjustment = column 5
 
-  -- E(i) + G(i), which come in whole
-  abbrev pub adjustedExports : ℕ → ℕ
-  adjustedExports i = cell exports i + cell adjustment i
+-- E(i) + G(i), which come in whole
+abbrev pub adjustedExports : (E G : Cells) → ℕ → ℕ
+adjustedExports E G i = cell E i + cell G i
 
 -- A quotient to the nearest whole number, "halves upward": half a divisor is added and it is rounded down. All is doubled, for odd divisors
 abbrev pub nearest : ℕ → ℕ → ℕ
@@ -100,6 +100,7 @@ module _ (t : Table) where
   unfoldable pub domesticCoefficient : Sheet
   domesticCoefficient i j = portion (one - importCoefficient i) (inputCoefficient i j)
 
-  -- Demand for domestic goods f(i): exports come in whole, and the adjustment item "is added whole to f"
-  unfoldable pub domesticDemand : ℕ → ℕ
-  domesticDemand i = portion (one - importCoefficient i) (cell (finalDemand t) i) + adjustedExports t i
+-- Demand for domestic goods f(i), with import shares m: what is not imported of final demand; exports come in whole, and the adjustment item "is added
+-- whole to f"
+unfoldable pub domesticDemand : (n : ℕ) (m F E G : Cells) → Cells
+domesticDemand n m F E G = tabulate n (λ i. portion (one - cell m i) (cell F i) + adjustedExports E G i)
