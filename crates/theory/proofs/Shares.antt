@@ -2,7 +2,7 @@
 use mathlib.Core.Path.{_≡_, refl, sym, _∙_}
 use Prim.Native.Nat.{ℕ, zero, suc, _+_, _*_, _-_, _/_, _%_, _≤_, _<_, zero-le}
 use native.Mathlib.Decide.{decLt}
-use native.Mathlib.Nat.{div-zero, div-add-mod', mod-lt, div-eq-of-lt-le, div-le-of-le-mul, mul-div-le, lt-mul-div-succ, mul-le-mul-right, mul-zero, le-refl, le-antisymm}
+use native.Mathlib.Nat.{div-zero, div-add-mod', mod-lt, div-eq-of-lt-le, div-le-of-le-mul, mul-div-le, lt-mul-div-succ, mul-div-cancel-left, mul-le-mul-right, mul-zero, le-refl, le-antisymm}
 use native.Mathlib.Omega.{arith}
 use Rattle.model.specs.Numbers.{one}
 use Rattle.model.specs.Table.{nearest, share, portion}
@@ -89,3 +89,22 @@ nearest-only part (suc w) s t p q =
 -- a share takes no more than the whole of an amount
 pub portion-le : (m amount : ℕ) → m ≤ one → portion m amount ≤ amount
 portion-le m amount h = div-le-of-le-mul one (mul-le-mul-right amount h)
+
+-- and one takes the whole
+pub portion-whole : (amount : ℕ) → portion one amount ≡ amount
+portion-whole amount = mul-div-cancel-left amount (omega arith)
+
+-- of a larger amount it takes no less: what it takes of the rest, or one more, and no more than the rest
+module _ (m amount more : ℕ) where
+  abbrev taken : ℕ
+  taken = portion m (amount + more)
+
+  pub portion-more : portion m amount + portion m more ≤ taken
+  portion-more = omega (arith, mul-div-le (m * amount) one, mul-div-le (m * more) one, lt-mul-div-succ (m * (amount + more)) {b = one} (omega arith))
+
+  pub portion-near : taken ≤ portion m amount + portion m more + 1
+  portion-near =
+      omega (arith, mul-div-le (m * (amount + more)) one, lt-mul-div-succ (m * amount) {b = one} (omega arith), lt-mul-div-succ (m * more) {b = one} (omega arith))
+
+  pub portion-rest : m ≤ one → taken ≤ portion m amount + more
+  portion-rest h = omega (arith, mul-div-le (m * (amount + more)) one, lt-mul-div-succ (m * amount) {b = one} (omega arith), mul-le-mul-right more h)

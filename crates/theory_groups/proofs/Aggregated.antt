@@ -6,7 +6,7 @@ use Prim.Native.Nat.{ℕ, zero, suc, _*_, _/_, _%_, _≤_}
 use native.Mathlib.Nat.{le-refl, le-trans, not-suc-le-zero, le-of-suc-le-suc}
 use lib.ListN.{length, replicate}
 use Rattle.model.specs.Numbers.{cell, at}
-use Rattle.model.specs.Table.{Table, tableBy, column}
+use Rattle.model.specs.Table.{Table, tableBy, column, exports, adjustment}
 use Rattle.model.specs.Checks.{Report, accepts, verdict, output, tableAmounts, exportsWithin, balanceChecks, columnSums}
 use Rattle.model.specs.Calls.{tableChecks, coefficientsReport, domesticCoefficients}
 use Rattle.model.specs.Aggregation.{groupTotal, groupSizes, mergedFlow, mergedColumn, mergedTable, partitioned, mergedWithin, aggregateChecks, aggregateReport}
@@ -63,7 +63,7 @@ module _ (n : ℕ) (x f e m v p a groups : List ℕ) where
         let s = sized g matrices lent (size-passes g matrices lent (count .0) (le-trans (count .1) (z .0 .few))) is-lent in
         let r = all-pass-parts (tableAmounts t) (balanceChecks t ++ (partitioned t groups ∷ mergedWithin t groups ∷ [])) rest in
         let b = all-pass-parts (balanceChecks t) (partitioned t groups ∷ mergedWithin t groups ∷ []) (r .1) in
-        let asked = tableAmounts u ++ (exportsWithin u ∷ []) in
+        let sixteenth = exportsWithin (u .sectors) (exports u) (adjustment u) ∷ [] in
         record {
           table = record { sizes = z .0; small = table-amounts t (r .0); balance = balanced t (b .0); squares = tt; slices = tt };
           some = count .0;
@@ -71,7 +71,7 @@ module _ (n : ℕ) (x f e m v p a groups : List ℕ) where
           squares = s .squares;
           slices = s .slices;
           parts = partition t groups (b .1 .0);
-          small = table-amounts u (all-pass-parts (tableAmounts u) (exportsWithin u ∷ []) (accepted-all asked [] (b .1 .1 .0 0 (le-refl 1))) .0);
+          small = table-amounts u (all-pass-parts (tableAmounts u) sixteenth (accepted-all (tableAmounts u ++ sixteenth) [] (b .1 .1 .0 0 (le-refl 1))) .0);
         }
 
     -- what a call knows whose answer is that it was accepted

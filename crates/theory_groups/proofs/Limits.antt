@@ -9,7 +9,7 @@ use borrow.Author.Tests.{leb-true, le-leb}
 use lib.Dec.{leb}
 use lib.ListN.{length, List·getD-eq-default}
 use Rattle.model.specs.Numbers.{cell, transposed}
-use Rattle.model.specs.Table.{Table, tableBy, column, flow}
+use Rattle.model.specs.Table.{Table, tableBy, column, exports, adjustment, flow}
 use Rattle.model.specs.Checks.{Report, Check, amountLimit, verdict, tableAmounts, exportsWithin}
 use Rattle.model.specs.Aggregation.{groupTotal, mergedFlow, mergedTable}
 use Rattle.theory.proofs.Sums.{sum-cell}
@@ -82,14 +82,17 @@ module _ (n : ℕ) (x f e m v p a groups : List ℕ) (once : Once n groups) (som
     -- the merged table balances
     pub merged-balanced : TableAmounts u → Balanced u
     merged-balanced small = record {
-      exports = λ k h. exports-follow u small k (merged-rows t groups once b k h) (merged-covered t groups once b k h);
+      abroad = λ k h. exports-follow u small k (merged-rows t groups once b k h) (merged-covered t groups once b k h);
       columns = merged-columns t groups once b;
       rows = merged-rows t groups once b;
       covered = merged-covered t groups once b;
     }
 
     -- so question 19 is that of these three columns
-    pub limits-same : decidingWithin n groups f m p ≡ verdict (tableAmounts u ++ (exportsWithin u ∷ [])) [] .accepted
+    abbrev sixteenth : List Check
+    sixteenth = exportsWithin (u .sectors) (exports u) (adjustment u) ∷ []
+
+    pub limits-same : decidingWithin n groups f m p ≡ verdict (tableAmounts u ++ sixteenth) [] .accepted
     limits-same = both-ways _ _ within decides
       where
         both-ways : (a b : Bool) → (a ≡ true → b ≡ true) → (b ≡ true → a ≡ true) → a ≡ b
@@ -98,7 +101,7 @@ module _ (n : ℕ) (x f e m v p a groups : List ℕ) (once : Once n groups) (som
         both-ways false false h k = refl
 
         asked : List Check
-        asked = tableAmounts u ++ (exportsWithin u ∷ [])
+        asked = tableAmounts u ++ sixteenth
 
         within : decidingWithin n groups f m p ≡ true → verdict asked [] .accepted ≡ true
         within e =
@@ -107,9 +110,9 @@ module _ (n : ℕ) (x f e m v p a groups : List ℕ) (once : Once n groups) (som
             let small = small-amounts (totals-small t groups 0 (r .0)) (totals-small t groups 2 (r .1)) (totals-small t groups 4 (q .1)) in
             ap (λ (r : Report). r .accepted)
             (all-accepted asked []
-            (all-pass-both (tableAmounts u) (exportsWithin u ∷ []) (amounts-pass u small) (λ k h. le-leb _ _ (merged-balanced small .exports k h), tt)))
+            (all-pass-both (tableAmounts u) sixteenth (amounts-pass u small) (λ k h. le-leb _ _ (merged-balanced small .abroad k h), tt)))
 
         decides : verdict asked [] .accepted ≡ true → decidingWithin n groups f m p ≡ true
         decides e =
-            let small = table-amounts u (all-pass-parts (tableAmounts u) (exportsWithin u ∷ []) (accepted-all asked [] e) .0) in
+            let small = table-amounts u (all-pass-parts (tableAmounts u) sixteenth (accepted-all asked [] e) .0) in
             rw (totals-pass t groups 0 (small .columns 0), totals-pass t groups 2 (small .columns 2), totals-pass t groups 4 (small .columns 4))

@@ -62,7 +62,7 @@ module _ (t : Table) (groups : List ℕ) where
         ap₂ _+_ (sum-cong g (λ l j. merged-flow k l h j) ∙ row-kept (t .sectors) groups once (flow t) k) (merged-cell 0 k h)
         ∙ sym (total-add (t .sectors) (cell groups k) (λ i. sum (t .sectors) (flow t i)) (cell (finalDemand t)))
 
-    merged-abroad : (k : ℕ) → k < g → adjustedExports u k ≡ grouped (adjustedExports t) k
+    merged-abroad : (k : ℕ) → k < g → adjustedExports (exports u) (adjustment u) k ≡ grouped (adjustedExports (exports t) (adjustment t)) k
     merged-abroad k h = ap₂ _+_ (merged-cell 1 k h) (merged-cell 5 k h) ∙ sym (total-add (t .sectors) (cell groups k) (cell (exports t)) (cell (adjustment t)))
 
     -- Theorems, for the reader: a table that balances still does when it is merged, and imports are still covered by need
@@ -74,10 +74,10 @@ module _ (t : Table) (groups : List ℕ) where
           ∙ total-cong (t .sectors) (cell groups l) (b .columns)
           ∙ sym (merged-cell 4 l h)
 
-      pub merged-rows : (k : ℕ) → k < g → need u k + adjustedExports u k ≡ cell (production u) k + cell (imports u) k
+      pub merged-rows : (k : ℕ) → k < g → need u k + adjustedExports (exports u) (adjustment u) k ≡ cell (production u) k + cell (imports u) k
       merged-rows k h =
           ap₂ _+_ (merged-need k h) (merged-abroad k h)
-          ∙ sym (total-add (t .sectors) (cell groups k) (need t) (adjustedExports t))
+          ∙ sym (total-add (t .sectors) (cell groups k) (need t) (adjustedExports (exports t) (adjustment t)))
           ∙ total-cong (t .sectors) (cell groups k) (b .rows)
           ∙ total-add (t .sectors) (cell groups k) (cell (production t)) (cell (imports t))
           ∙ sym (ap₂ _+_ (merged-cell 4 k h) (merged-cell 2 k h))

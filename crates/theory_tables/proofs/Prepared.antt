@@ -12,15 +12,16 @@ use Rattle.model.specs.Numbers.{one, sum, all, tabulate, cell, at, transposed}
 use Rattle.model.specs.Table.{Table, finalDemand, exports, adjustment, portion, inputCoefficient, valueAddedCoefficient, importCoefficient, domesticCoefficient, domesticDemand}
 use Rattle.model.specs.Rounds.{settling, settled}
 use Rattle.model.specs.Checks.{Check, accepts, verdict, size, lengths, bounded, single, settles, demandLimit, productionBudget, amountLimit, columnSums, inducedAmounts, productionLimit, productionTotal, columnLimit}
-use Rattle.model.specs.Calls.{tableChecks, matrixChecks, coefficientsReport, productionReport, inducedReport, inputCoefficients, valueAddedCoefficients, importCoefficients, domesticCoefficients, domesticDemands}
+use Rattle.model.specs.Calls.{tableChecks, matrixChecks, coefficientsReport, productionReport, inducedReport, inputCoefficients, valueAddedCoefficients, importCoefficients, domesticCoefficients, tableDemand}
 use Rattle.model.specs.Promises.{AcceptedMatrix, Accurate}
 use Rattle.theory.proofs.Sums.{sum-part}
-use Rattle.theory.proofs.Lists.{length-tabulate, cell-tabulate}
+use Rattle.theory.proofs.Lists.{length-tabulate}
 use Rattle.theory_rounds.proofs.Rounds.{settles-length}
 use Rattle.theory.proofs.Verdicts.{AllPass, accepted-all, single-passed, all-pass-parts, pass-on, size-passes, lengths-pass, matrix-accepted}
 use Rattle.theory_rounds.proofs.Answers.{accepted-settled}
 use Rattle.theory_budgets.proofs.Budgets.{production-settles}
-use Rattle.theory_tables.proofs.Tables.{Accepted, accepted-table, nearest-shares, inputs-small, demand-small}
+use Rattle.theory_tables.proofs.Demands.{length-demand}
+use Rattle.theory_tables.proofs.Tables.{Accepted, accepted-table, nearest-shares, inputs-small, demands-small}
 use Rattle.theory_rounds.proofs.Promises.{accurate, settled-total}
 
 -- the lengths of the sheets
@@ -32,7 +33,7 @@ length-values : (t : Table) → length (valueAddedCoefficients t) ≡ t .sectors
 unfolding valueAddedCoefficients
 length-values t = length-tabulate (t .sectors) (valueAddedCoefficient t)
 
-length-imports : (t : Table) → length (importCoefficients t) ≡ t .sectors
+pub length-imports : (t : Table) → length (importCoefficients t) ≡ t .sectors
 unfolding importCoefficients
 length-imports t = length-tabulate (t .sectors) (importCoefficient t)
 
@@ -40,13 +41,8 @@ length-domestic : (t : Table) → length (domesticCoefficients t) ≡ t .sectors
 unfolding domesticCoefficients
 length-domestic t = length-tabulate (t .sectors * t .sectors) (λ k. domesticCoefficient t (k / t .sectors) (k % t .sectors))
 
-length-demands : (t : Table) → length (domesticDemands t) ≡ t .sectors
-unfolding domesticDemands
-length-demands t = length-tabulate (t .sectors) (domesticDemand t)
-
-pub demands-small : (t : Table) (matrices lent : List ℕ) → Accepted t matrices lent → (i : ℕ) → i < t .sectors → cell (domesticDemands t) i ≤ demandLimit
-unfolding domesticDemands
-demands-small t matrices lent A i h = rw (cell-tabulate (t .sectors) (domesticDemand t) i h) (demand-small t (A .balance) (A .small) i h)
+length-demands : (t : Table) → length (tableDemand t) ≡ t .sectors
+length-demands t = length-demand (t .sectors) (importCoefficients t) (finalDemand t) (exports t) (adjustment t)
 
 module _ (t : Table) (matrices lent : List ℕ) (ok : coefficientsReport t matrices lent .accepted ≡ true) where
   abbrev seventh : List Check
@@ -73,53 +69,53 @@ module _ (t : Table) (matrices lent : List ℕ) (ok : coefficientsReport t matri
   pub production-ready : (budget : ℕ)
       → let n = t .sectors in
       let d = domesticCoefficients t in
-      let f = domesticDemands t in
+      let f = tableDemand t in
       productionReport n d f budget (n ∷ n ∷ []) ≡ verdict (single 9 (settles n (at n d) f budget) ∷ []) (settling n (at n d) f budget ∷ [])
   unfolding productionReport
   production-ready budget =
       let n = t .sectors in
       let d = domesticCoefficients t in
-      let f = domesticDemands t in
+      let f = tableDemand t in
       let k = settling n (at n d) f budget ∷ [] in
       let last = single 9 (settles n (at n d) f budget) ∷ [] in
       let slices : all (eqb n) (length f ∷ n ∷ n ∷ []) ≡ true = rw (eq-eqb n (length f) (sym (length-demands t)), eq-eqb n n refl) in
       pass-on (matrixChecks n d [] (length f ∷ n ∷ n ∷ [])) (bounded 8 0 demandLimit f ∷ last) k
       (matrix-accepted n d [] (length f ∷ n ∷ n ∷ []) matrix-is-accepted refl slices)
       ∙ pass-on (bounded 8 0 demandLimit f ∷ []) last k
-      (λ i h. le-leb (cell f i) demandLimit (demands-small t matrices lent table-accepted i (rw (length-demands t) at h)), tt)
+      (λ i h. le-leb (cell f i) demandLimit (demands-small t (table-accepted .balance) (table-accepted .small) i (rw (length-demands t) at h)), tt)
 
   -- so it is accepted with every budget that settles every production
   pub production-accepted : (budget : ℕ) → productionBudget ≤ budget
       → let n = t .sectors in
       let d = domesticCoefficients t in
-      let f = domesticDemands t in
+      let f = tableDemand t in
       productionReport n d f budget (n ∷ n ∷ []) ≡ accepts (settling n (at n d) f budget ∷ [])
   production-accepted budget h =
-      let f = domesticDemands t in
+      let f = tableDemand t in
       let k = settling (t .sectors) (at (t .sectors) (domesticCoefficients t)) f budget in
       production-ready budget
-      ∙ single-passed 9 [] (k ∷ []) (le-leb k budget (production-settles matrix-is-accepted f (demands-small t matrices lent table-accepted) budget h))
+      ∙ single-passed 9 [] (k ∷ []) (le-leb k budget (production-settles matrix-is-accepted f (demands-small t (table-accepted .balance) (table-accepted .small)) budget h))
 
   -- Theorem, for the reader: document 02, ticket 3, "The accuracy rule now speaks of demands that include G". The production that is settled from an
   -- accepted table's f, here written out, is near every exact balance of that f
   pub table-accurate : (budget : ℕ)
       → let n = t .sectors in
       let d = domesticCoefficients t in
-      productionReport n d (domesticDemands t) budget (n ∷ n ∷ []) .accepted ≡ true
+      productionReport n d (tableDemand t) budget (n ∷ n ∷ []) .accepted ≡ true
       → Accurate n d
-      (tabulate n (λ i. portion (one - importCoefficient t i) (cell (finalDemand t) i) + (cell (exports t) i + cell (adjustment t) i)))
-      (settled n (at n d) (domesticDemands t) budget)
-  unfolding productionReport domesticDemands domesticDemand
+      (tabulate n (λ i. portion (one - cell (importCoefficients t) i) (cell (finalDemand t) i) + (cell (exports t) i + cell (adjustment t) i)))
+      (settled n (at n d) (tableDemand t) budget)
+  unfolding productionReport domesticDemand
   table-accurate budget settles =
       let n = t .sectors in
       let d = domesticCoefficients t in
-      accurate matrix-is-accepted (accepted-settled n d (at n d) demandLimit (domesticDemands t) budget (n ∷ n ∷ []) settles .1)
+      accurate matrix-is-accepted (accepted-settled n d (at n d) demandLimit (tableDemand t) budget (n ∷ n ∷ []) settles .1)
 
   -- and what it settles at is accepted for induced amounts
   pub induced-ready : 1 ≤ length (t .columns) → (budget : ℕ)
       → let n = t .sectors in
       let d = domesticCoefficients t in
-      let f = domesticDemands t in
+      let f = tableDemand t in
       productionReport n d f budget (n ∷ n ∷ []) .accepted ≡ true
       → inducedReport n (inputCoefficients t) (importCoefficients t) (valueAddedCoefficients t) (finalDemand t) (settled n (at n d) f budget) (n ∷ n ∷ []) ≡ accepts []
   unfolding productionReport inducedReport
@@ -159,12 +155,12 @@ module _ (t : Table) (matrices lent : List ℕ) (ok : coefficientsReport t matri
       c = at (t .sectors) (domesticCoefficients t)
 
       y : List ℕ
-      y = settled (t .sectors) c (domesticDemands t) budget
+      y = settled (t .sectors) c (tableDemand t) budget
 
       len : length y ≡ t .sectors
       len =
           settles-length (t .sectors) c (length-demands t)
-          (accepted-settled (t .sectors) (domesticCoefficients t) c demandLimit (domesticDemands t) budget (t .sectors ∷ t .sectors ∷ []) settles .1)
+          (accepted-settled (t .sectors) (domesticCoefficients t) c demandLimit (tableDemand t) budget (t .sectors ∷ t .sectors ∷ []) settles .1)
 
       total : sum (t .sectors) (cell y) ≤ productionLimit
-      total = settled-total matrix-is-accepted (domesticDemands t) (demands-small t matrices lent table-accepted) budget
+      total = settled-total matrix-is-accepted (tableDemand t) (demands-small t (table-accepted .balance) (table-accepted .small)) budget

@@ -9,16 +9,17 @@ use borrow.Author.Tests.{leb-true, eqb-true, ltb-true, ltb-false, le-leb, eq-eqb
 use lib.Dec.{ltb}
 use lib.ListN.{length, getD, List·getD-eq-default}
 use Rattle.model.specs.Numbers.{one, sum, tabulate, cell, at, matrix, transposed}
-use Rattle.model.specs.Table.{Table, finalDemand, imports, valueAdded, production, adjustedExports, flow, need, portion, inputCoefficient, valueAddedCoefficient, importCoefficient, domesticCoefficient, domesticDemand}
+use Rattle.model.specs.Table.{Table, finalDemand, exports, imports, valueAdded, production, adjustment, adjustedExports, flow, need, portion, inputCoefficient, valueAddedCoefficient, importCoefficient, domesticCoefficient}
 use Rattle.model.specs.Checks.{size, lengths, bounded, countedOn, amountLimit, demandLimit, tableAmounts, balanceChecks}
-use Rattle.model.specs.Calls.{tableChecks, inputCoefficients, valueAddedCoefficients, importCoefficients, domesticCoefficients, domesticDemands}
+use Rattle.model.specs.Calls.{tableChecks, inputCoefficients, valueAddedCoefficients, importCoefficients, domesticCoefficients, tableDemand}
 use Rattle.model.specs.Promises.{NearestShares}
 use Rattle.theory.specs.Slices.{Each, Columns}
 use Rattle.theory_tables.specs.Tables.{TableSizes, TableAmounts}
 use Rattle.theory.proofs.Lists.{cell-tabulate, tabulate-cong, equal-each}
 use Rattle.theory.proofs.Sums.{sum-cell}
 use Rattle.theory.proofs.Matrices.{place-row, place-column, place-cell, matrix-cell}
-use Rattle.theory.proofs.Shares.{share-nearest, portion-le}
+use Rattle.theory.proofs.Shares.{share-nearest}
+use Rattle.theory_tables.proofs.Demands.{demand-small}
 use Rattle.theory.proofs.Verdicts.{Passes, AllPass, all-pass-parts, all-pass-both, sized, size-passes, lengths-pass}
 
 -- every length of a list of slices, and of what follows them
@@ -77,15 +78,15 @@ amounts-pass t a = counted-passes 0 amountLimit (t .flows ∷ t .columns) small
 
 -- questions 16, 4, 5 and 6 pass
 pub record Balanced (t : Table) : Type 0 where
-  pub exports : (i : ℕ) → i < t .sectors → adjustedExports t i ≤ amountLimit
+  pub abroad : (i : ℕ) → i < t .sectors → adjustedExports (exports t) (adjustment t) i ≤ amountLimit
   pub columns : (j : ℕ) → j < t .sectors → sum (t .sectors) (transposed (flow t) j) + cell (valueAdded t) j ≡ cell (production t) j
-  pub rows : (i : ℕ) → i < t .sectors → need t i + adjustedExports t i ≡ cell (production t) i + cell (imports t) i
+  pub rows : (i : ℕ) → i < t .sectors → need t i + adjustedExports (exports t) (adjustment t) i ≡ cell (production t) i + cell (imports t) i
   pub covered : (i : ℕ) → i < t .sectors → cell (imports t) i ≤ need t i
 
 pub balanced : (t : Table) → AllPass (balanceChecks t) → Balanced t
 balanced t (e, (c, (r, (m, _)))) =
     record {
-      exports = λ i h. leb-true _ _ (e i h);
+      abroad = λ i h. leb-true _ _ (e i h);
       columns = λ j h. eqb-true _ _ (c j h);
       rows = λ i h. eqb-true _ _ (r i h);
       covered = λ i h. leb-true _ _ (m i h);
@@ -93,13 +94,13 @@ balanced t (e, (c, (r, (m, _)))) =
 
 balance-passes : (t : Table) → Balanced t → AllPass (balanceChecks t)
 balance-passes t b = (
-  λ i h. le-leb _ _ (b .exports i h),
+  λ i h. le-leb _ _ (b .abroad i h),
   (λ j h. eq-eqb _ _ (b .columns j h), (λ i h. eq-eqb _ _ (b .rows i h), (λ i h. le-leb _ _ (b .covered i h), tt))),
 )
 
 -- Theorem, for the reader: with 3, 5 and 6 answered yes, so is 16. It refuses no table that would be accepted without it
-pub exports-follow : (t : Table) → TableAmounts t → (i : ℕ) → need t i + adjustedExports t i ≡ cell (production t) i + cell (imports t) i → cell (imports t) i ≤ need t i
-    → adjustedExports t i ≤ amountLimit
+pub exports-follow : (t : Table) → TableAmounts t → (i : ℕ) → need t i + adjustedExports (exports t) (adjustment t) i ≡ cell (production t) i + cell (imports t) i → cell (imports t) i ≤ need t i
+    → adjustedExports (exports t) (adjustment t) i ≤ amountLimit
 exports-follow t a i row covered = omega (arith, a .columns 4 i, row, covered)
 
 -- a table that passes questions 1 to 6 and 16, and the slices that are lent beside it
@@ -149,16 +150,9 @@ module _ (t : Table) (b : Balanced t) where
         imported = λ i h. rw (cell-tabulate n (importCoefficient t) i h) (share-nearest (cell (imports t) i) (need t i) (b .covered i h));
       }
 
-  -- with G in it too f is within the limit of question 8: F is within the limit of amounts by 3, and E plus G by 16
-  pub demand-small : TableAmounts t → (i : ℕ) → i < t .sectors → domesticDemand t i ≤ demandLimit
-  unfolding domesticDemand
-  demand-small a i h =
-      omega (
-        arith,
-        portion-le (one - importCoefficient t i) (cell (finalDemand t) i) (sub-le one (importCoefficient t i)),
-        a .columns 0 i,
-        b .exports i h,
-      )
+  -- with G in it too f is within the limit of question 8
+  pub demands-small : TableAmounts t → (i : ℕ) → i < t .sectors → cell (tableDemand t) i ≤ demandLimit
+  demands-small a i h = demand-small (t .sectors) (importCoefficients t) (finalDemand t) (exports t) (adjustment t) i h (a .columns 0 i) (b .abroad i h)
 
 -- ---- the sheets, as they are worked out one from the other
 module _ (t : Table) where
@@ -180,19 +174,9 @@ module _ (t : Table) where
       ap₂ portion (ap (λ (m : ℕ). one - m) (import-cell (k / n) (place-row n k some h)))
       (place-cell n (inputCoefficients t) k ∙ input-cell k h))
 
-  demand-is : tabulate (t .sectors) (λ i. portion (one - cell (importCoefficients t) i) (cell (finalDemand t) i) + adjustedExports t i) ≡ domesticDemands t
-  unfolding domesticDemands domesticDemand
-  demand-is =
-      tabulate-cong (t .sectors)
-      (λ i h. ap (λ (m : ℕ). portion (one - m) (cell (finalDemand t) i) + adjustedExports t i) (import-cell i h))
-
 pub domestic-from : (t : Table) {a m : List ℕ} → 1 ≤ t .sectors → a ≡ inputCoefficients t → m ≡ importCoefficients t
     → matrix (t .sectors) (λ i j. portion (one - cell m i) (at (t .sectors) a i j)) ≡ domesticCoefficients t
 domestic-from t some e f = rw (e, f) (domestic-is t some)
-
-pub demand-from : (t : Table) {m : List ℕ} → m ≡ importCoefficients t
-    → tabulate (t .sectors) (λ i. portion (one - cell m i) (cell (finalDemand t) i) + adjustedExports t i) ≡ domesticDemands t
-demand-from t e = rw e (demand-is t)
 
 -- the cells of a, in their places, are within one
 pub inputs-small : (t : Table) → 1 ≤ t .sectors → Balanced t → (k : ℕ) → k < t .sectors * t .sectors → cell (inputCoefficients t) k ≤ one

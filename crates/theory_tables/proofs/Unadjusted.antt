@@ -11,13 +11,13 @@ use lib.ListN.{length, replicate, length-replicate}
 use Rattle.model.specs.Numbers.{one, cell, at}
 use Rattle.model.specs.Table.{Table, tableOf, tableBy, adjustedExports, need, portion, inputCoefficient, valueAddedCoefficient, importCoefficient, domesticCoefficient, domesticDemand}
 use Rattle.model.specs.Checks.{Report, Check, verdict, each, size, lengths, bounded, amountLimit, tableAmounts, exportsWithin, columnBalances, rowBalances, importsCovered, columnSums}
-use Rattle.model.specs.Calls.{coefficientsReport, inputCoefficients, valueAddedCoefficients, importCoefficients, domesticCoefficients, domesticDemands}
+use Rattle.model.specs.Calls.{coefficientsReport, inputCoefficients, valueAddedCoefficients, importCoefficients, domesticCoefficients, tableDemand}
 use Rattle.model.specs.Figures.{reportFrom, figuresReport}
 use Rattle.model.specs.Page.{pageFrom, tablePage}
 use Rattle.model.specs.Unadjusted.{unadjustedRows, unadjustedReport, unadjustedDemands, unadjustedPage}
 use Rattle.theory.proofs.Lists.{tabulate-cong, cell-zeros}
 use Rattle.theory.proofs.Verdicts.{AllPass, unasked}
-use Rattle.theory_tables.proofs.Tables.{bounded-cell}
+use Rattle.theory_tables.proofs.Tables.{bounded-cell, import-cell}
 
 module _ (n : ℕ) (x finalDemand exports imports valueAdded production : List ℕ) where
   abbrev pub zeros : List ℕ
@@ -30,13 +30,13 @@ module _ (n : ℕ) (x finalDemand exports imports valueAdded production : List �
   abbrev pub plain : Table
   plain = tableOf n x (finalDemand ∷ exports ∷ imports ∷ valueAdded ∷ production ∷ [])
 
-  exports-alone : (i : ℕ) → adjustedExports adjusted i ≡ cell exports i
+  exports-alone : (i : ℕ) → adjustedExports exports zeros i ≡ cell exports i
   exports-alone i = ap (λ (g : ℕ). cell exports i + g) (cell-zeros n i) ∙ add-zero (cell exports i)
 
   -- f, by document 01
-  pub unadjusted-demands : domesticDemands adjusted ≡ unadjustedDemands plain
-  unfolding domesticDemands domesticDemand unadjustedDemands importCoefficient
-  unadjusted-demands = tabulate-cong n (λ i _. ap (λ (e : ℕ). portion (one - importCoefficient plain i) (cell finalDemand i) + e) (exports-alone i))
+  pub unadjusted-demands : tableDemand adjusted ≡ unadjustedDemands plain
+  unfolding domesticDemand unadjustedDemands importCoefficient
+  unadjusted-demands = tabulate-cong n (λ i h. ap₂ (λ (m e : ℕ). portion (one - m) (cell finalDemand i) + e) (import-cell adjusted i h) (exports-alone i))
 
   -- the questions: that of G among 3 and 16 pass where those before them do, and 5 is that of document 01
   module _ (matrices lent : List ℕ) where
@@ -52,7 +52,7 @@ module _ (n : ℕ) (x finalDemand exports imports valueAdded production : List �
     zeros-pass : (i : ℕ) → i < length zeros → leb (cell zeros i) amountLimit ≡ true
     zeros-pass i _ = ap (λ (g : ℕ). leb g amountLimit) (cell-zeros n i) ∙ le-leb 0 amountLimit zero-le
 
-    exports-pass : AllPass before → (i : ℕ) → i < n → leb (adjustedExports adjusted i) amountLimit ≡ true
+    exports-pass : AllPass before → (i : ℕ) → i < n → leb (adjustedExports exports zeros i) amountLimit ≡ true
     exports-pass p i _ =
         ap (λ (e : ℕ). leb e amountLimit) (exports-alone i)
         ∙ le-leb (cell exports i) amountLimit (bounded-cell 0 amountLimit exports (p .1 .1 .1 .1 .0) i)
@@ -64,7 +64,7 @@ module _ (n : ℕ) (x finalDemand exports imports valueAdded production : List �
     unfolding coefficientsReport unadjustedReport domesticCoefficients domesticCoefficient inputCoefficient importCoefficient
     unadjusted-report =
         rw (eq-eqb n (length zeros) (sym (length-replicate n 0)))
-        (unasked before (amounts ∷ exportsWithin adjusted ∷ []) (after (rowBalances adjusted)) [] (λ p. (zeros-pass, (exports-pass p, tt)))
+        (unasked before (amounts ∷ exportsWithin n exports zeros ∷ []) (after (rowBalances adjusted)) [] (λ p. (zeros-pass, (exports-pass p, tt)))
         ∙ ap (λ (q : Check). verdict (before ++ after q) []) rows-same)
 
   -- Theorem, for the reader: the page, by document 01

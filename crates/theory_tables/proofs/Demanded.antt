@@ -1,0 +1,136 @@
+-- What the checks of `domestic_demand` say of its slices, and what the call promises of its answer and of what it leaves in its output. Assumes nothing.
+use mathlib.Core.Bool.{true}
+use mathlib.Core.List.{List, [], _∷_, _++_}
+use mathlib.Core.Path.{_≡_, refl, sym, ap, _∙_, subst⁻¹}
+use Prim.Native.Nat.{ℕ, _+_, _≤_, _<_}
+use native.Mathlib.Nat.{le-trans}
+use borrow.Author.Tests.{le-leb, leb-true}
+use lib.Dec.{lit<}
+use lib.ListN.{length}
+use Rattle.model.specs.Numbers.{one, cell}
+use Rattle.model.specs.Table.{Table, tableBy, adjustedExports, domesticDemand}
+use Rattle.model.specs.Checks.{Report, Check, accepts, verdict, output, size, lengths, amountLimit, demandLimit, demandAmounts, exportsWithin, demandChecks}
+use Rattle.model.specs.Calls.{coefficientsReport, importCoefficients, tableDemand, domesticDemandReport}
+use Rattle.model.specs.Promises.{NowhereBelow, added, OrderedInside}
+use Rattle.model.specs.Contracts.{Demanded}
+use Rattle.theory.specs.Slices.{Each}
+use Rattle.theory.proofs.Lists.{equal-each}
+use Rattle.theory.proofs.Verdicts.{Passes, AllPass, accepted-all, all-accepted, all-pass-both, all-pass-parts, output-given, sized, size-passes, lengths-pass}
+use Rattle.theory_tables.proofs.Demands.{length-demand, demand-small, demand-rises, demand-parts}
+use Rattle.theory_tables.proofs.Tables.{bounded-cell, nearest-shares}
+use Rattle.theory_tables.proofs.Prepared.{length-imports, table-accepted}
+
+-- questions 1 and 2 pass
+pub record DemandSizes (n : ℕ) (m F E G lent : List ℕ) : Type 0 where
+  pub shares : length m ≡ n
+  pub demand : length F ≡ n
+  pub exports : length E ≡ n
+  pub adjustment : length G ≡ n
+  pub slices : Each n lent
+
+-- question 3 passes; past the end of a slice a cell is 0
+pub record DemandAmounts (m F E G : List ℕ) : Type 0 where
+  pub shares : (k : ℕ) → cell m k ≤ one
+  pub amounts : (k : ℕ) → (cell F k ≤ amountLimit) × (cell E k ≤ amountLimit) × (cell G k ≤ amountLimit)
+
+module _ (n : ℕ) (m F E G lent : List ℕ) where
+  abbrev columns : List ℕ
+  columns = length m ∷ length F ∷ length E ∷ length G ∷ lent
+
+  pub demand-sizes : Passes (size n) → Passes (lengths n [] columns) → DemandSizes n m F E G lent
+  demand-sizes p q =
+      let (m', (F', (E', (G', rest)))) = sized n [] columns p q .slices in
+      record { shares = m'; demand = F'; exports = E'; adjustment = G'; slices = rest }
+
+  pub demand-amounts : AllPass (demandAmounts m F E G) → DemandAmounts m F E G
+  demand-amounts (m', (F', (E', (G', _)))) =
+      record {
+        shares = bounded-cell 0 one m m';
+        amounts = λ k.
+            (bounded-cell (length m) amountLimit F F' k, bounded-cell (length m + length F) amountLimit E E' k, bounded-cell (length m + length F + length E) amountLimit G G' k);
+      }
+
+  -- and 16
+  pub record DemandGiven : Type 0 where
+    pub sizes : DemandSizes n m F E G lent
+    pub small : DemandAmounts m F E G
+    pub abroad : (i : ℕ) → i < n → adjustedExports E G i ≤ amountLimit
+
+  pub accepted-demand : {r : Report} → r ≡ domesticDemandReport n m F E G lent → r .accepted ≡ true → DemandGiven
+  unfolding domesticDemandReport
+  accepted-demand answer ok =
+      let sixteenth = exportsWithin n E G ∷ [] in
+      let asked = size n ∷ lengths n [] columns ∷ demandAmounts m F E G ++ sixteenth in
+      let p = accepted-all asked [] (sym (ap (λ (q : Report). q .accepted) answer) ∙ ok) in
+      let q = all-pass-parts (demandAmounts m F E G) sixteenth (p .1 .1) in
+      record {
+        sizes = demand-sizes (p .0) (p .1 .0);
+        small = demand-amounts (q .0);
+        abroad = λ i h. leb-true _ _ (q .1 .0 i h);
+      }
+
+-- with what a table has, all of them pass
+table-passes : (n : ℕ) (x F E imports valueAdded production G : List ℕ) (matrices others lent : List ℕ)
+    → let t = tableBy n x F E imports valueAdded production G in
+    coefficientsReport t matrices others .accepted ≡ true → Each n lent → domesticDemandReport n (importCoefficients t) F E G lent ≡ accepts []
+unfolding domesticDemandReport
+table-passes n x F E imports valueAdded production G matrices others lent ok are =
+    let t = tableBy n x F E imports valueAdded production G in
+    let m = importCoefficients t in
+    let A = table-accepted t matrices others ok in
+    let columns = length m ∷ length F ∷ length E ∷ length G ∷ lent in
+    let each : Each n columns = (length-imports t, (A .sizes .columns 0 (lit< tt), (A .sizes .columns 1 (lit< tt), (A .sizes .columns 5 (lit< tt), are)))) in
+    all-accepted (size n ∷ lengths n [] columns ∷ demandAmounts m F E G ++ (exportsWithin n E G ∷ [])) [] (
+      size-passes n [] columns (A .sizes .some) (A .sizes .few),
+      (
+        lengths-pass n [] columns refl (equal-each n columns each),
+        (
+          λ i h. le-leb (cell m i) one (nearest-shares t (A .balance) .imported i (rw (length-imports t) at h) .withinOne),
+          (
+            λ i h. le-leb (cell F i) amountLimit (A .small .columns 0 i),
+            (
+              λ i h. le-leb (cell E i) amountLimit (A .small .columns 1 i),
+              (λ i h. le-leb (cell G i) amountLimit (A .small .columns 5 i), (λ i h. le-leb _ _ (A .balance .abroad i h), tt)),
+            ),
+          ),
+        ),
+      ),
+    )
+
+module _ {n : ℕ} {m F E G out₀ : List ℕ} {r : Report} {out : List ℕ} where
+  pub demanded : r ≡ domesticDemandReport n m F E G (length out₀ ∷ []) → out ≡ output r (length out₀) (domesticDemand n m F E G) → Demanded n m F E G out₀ r out
+  demanded answer result =
+      record {
+        answer = answer;
+        outputs = result;
+        ofTable = λ x imports valueAdded production matrices lent ok e l.
+            let t = tableBy n x F E imports valueAdded production G in
+            let yes : r ≡ accepts [] =
+            answer ∙ ap (λ (s : List ℕ). domesticDemandReport n s F E G (length out₀ ∷ [])) e
+            ∙ table-passes n x F E imports valueAdded production G matrices lent (length out₀ ∷ []) ok (l, tt) in
+            (yes, is (ap (λ (q : Report). q .accepted) yes) ∙ ap (λ (s : List ℕ). domesticDemand n s F E G) e);
+        withinLimit = λ ok. subst⁻¹ (λ (l : List ℕ). (i : ℕ) → i < n → cell l i ≤ demandLimit) (is ok) (small ok F (λ i h. given ok .small .amounts i .0));
+        rises = λ ok before grows. subst⁻¹ (NowhereBelow n (domesticDemand n m before E G)) (is ok) (demand-rises n m before F E G grows);
+        comparable = λ ok before grows.
+            let s = domesticDemand n m before E G in
+            subst⁻¹ (λ (l : List ℕ). verdict (demandChecks n s l) [] ≡ accepts []) (is ok)
+            (all-accepted (demandChecks n s (domesticDemand n m F E G)) [] (
+              λ i h. le-leb _ _ (small ok before (λ j k. le-trans (grows j k) (given ok .small .amounts j .0)) i (rw (length-demand n m before E G) at h)),
+              (
+                λ i h. le-leb _ _ (small ok F (λ j k. given ok .small .amounts j .0) i (rw (length-demand n m F E G) at h)),
+                (λ i h. le-leb _ _ (demand-rises n m before F E G grows i h), tt),
+              ),
+            ));
+        parts = λ ok before grows.
+            subst⁻¹ (λ (l : List ℕ). OrderedInside n m (added before F) (added (domesticDemand n m before E G) l)) (is ok) (demand-parts n m before F E G grows);
+      }
+    where
+      given : r .accepted ≡ true → DemandGiven n m F E G (length out₀ ∷ [])
+      given = accepted-demand n m F E G (length out₀ ∷ []) answer
+
+      is : r .accepted ≡ true → out ≡ domesticDemand n m F E G
+      is ok = result ∙ output-given r (length out₀) (domesticDemand n m F E G) ok
+
+      -- of a final demand within the limit of amounts
+      small : r .accepted ≡ true → (H : List ℕ) → ((i : ℕ) → i < n → cell H i ≤ amountLimit) → (i : ℕ) → i < n → cell (domesticDemand n m H E G) i ≤ demandLimit
+      small ok H within i h = demand-small n m H E G i h (within i h) (given ok .abroad i h)
