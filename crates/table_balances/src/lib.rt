@@ -27,7 +27,7 @@ pub fn need_of(n: usize, x: &[u64], final_demand: &[u64], i: usize) -> u64
 pub fn exports_within(n: usize, exports: &[u64], adjustment: &[u64]) -> Answer
     requires { ⌜ (length (now exports) ≡ n) × (length (now adjustment) ≡ n) ⌝ }
     requires { ⌜ ((k : ℕ) → (cell (now exports) k ≤ amountLimit) × (cell (now adjustment) k ≤ amountLimit)) ⌝ }
-    ensures { λ r. ⌜ report r ≡ verdict (exportsWithin (tableBy n [] [] (now (exports .entry)) [] [] [] (now (adjustment .entry))) ∷ []) [] ⌝ }
+    ensures { λ r. ⌜ report r ≡ verdict (exportsWithin n (now (exports .entry)) (now (adjustment .entry)) ∷ []) [] ⌝ }
 {
     for i in 0..n {
         if AMOUNT_LIMIT < exports[i] + adjustment[i] {

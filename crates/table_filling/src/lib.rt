@@ -11,7 +11,7 @@ ghost use mathlib.Core.Path.{_≡_};
 ghost use lib.ListN.{length};
 ghost use Rattle.model.specs.Table.{tableBy};
 ghost use Rattle.model.specs.Checks.{report, verdict};
-ghost use Rattle.model.specs.Calls.{coefficientsReport, domesticCoefficients, domesticDemands, importCoefficients, inputCoefficients, tableChecks, valueAddedCoefficients};
+ghost use Rattle.model.specs.Calls.{coefficientsReport, domesticCoefficients, importCoefficients, inputCoefficients, tableChecks, tableDemand, valueAddedCoefficients};
 
 // Questions 1 to 3, 16 and 4 to 6, with the lengths of the outputs.
 fn check_called(
@@ -79,7 +79,7 @@ pub fn fill_sheets(
         (r ≡ coefficientsReport t (length (now (a .entry)) ∷ length (now (d .entry)) ∷ []) (length (now (v .entry)) ∷ length (now (m .entry)) ∷ length (now (f .entry)) ∷ []))
         × (r .accepted ≡ true →
         (now (a .exit) ≡ inputCoefficients t) × (now (v .exit) ≡ valueAddedCoefficients t) × (now (m .exit) ≡ importCoefficients t)
-        × (now (d .exit) ≡ domesticCoefficients t) × (now (f .exit) ≡ domesticDemands t))) ⌝ }
+        × (now (d .exit) ≡ domesticCoefficients t) × (now (f .exit) ≡ tableDemand t))) ⌝ }
 {
     let checked = check_called(
         n,

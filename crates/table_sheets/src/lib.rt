@@ -1,16 +1,17 @@
-// The sheets of a table, filled one at a time: input coefficients, shares, domestic coefficients and demand for domestic goods.
+// The sheets of a table, filled one at a time: input coefficients, shares and domestic coefficients; and the demand for domestic goods with them.
 use checks::columns_within;
 use model::Answer;
 use model::ONE;
 use shares::portion_of;
 use shares::share_of;
 use table_balances::need_of;
+use table_demand::fill_demand;
 ghost use mathlib.Core.List.{[], _∷_};
 ghost use mathlib.Core.Path.{_≡_};
-ghost use Prim.Native.Nat.{ℕ, _+_, _*_, _-_, _<_, _≤_};
+ghost use Prim.Native.Nat.{ℕ, _*_, _-_, _<_, _≤_};
 ghost use lib.ListN.{length};
 ghost use Rattle.model.specs.Numbers.{at, cell, matrix, one, tabulate};
-ghost use Rattle.model.specs.Table.{absorption, portion, share, sectorLimit};
+ghost use Rattle.model.specs.Table.{absorption, domesticDemand, portion, share, sectorLimit};
 ghost use Rattle.model.specs.Checks.{amountLimit, columnSums, report, verdict};
 
 // Shares of the columns of x: each flow's part of the production of the sector that buys.
@@ -63,26 +64,6 @@ fn fill_domestic(n: usize, a: &[u64], m: &[u64], d: &mut [u64])
     }
 }
 
-// Demand for domestic goods: what is not imported of final demand, and exports and the adjustment item whole.
-fn fill_demand(
-    n: usize,
-    m: &[u64],
-    final_demand: &[u64],
-    exports: &[u64],
-    adjustment: &[u64],
-    f: &mut [u64],
-)
-    requires { ⌜ (length (now m) ≡ n) × (length (now «final_demand») ≡ n) × (length (now exports) ≡ n) × (length (now adjustment) ≡ n) × (length (now f) ≡ n) ⌝ }
-    requires { ⌜ ((k : ℕ) → k < n → cell (now m) k ≤ one) ⌝ }
-    requires { ⌜ ((k : ℕ) → (cell (now «final_demand») k ≤ amountLimit) × (cell (now exports) k ≤ amountLimit) × (cell (now adjustment) k ≤ amountLimit)) ⌝ }
-    ensures { λ _. ⌜ now (f .exit) ≡ tabulate n (λ i. portion (one - cell (now (m .entry)) i) (cell (now («final_demand» .entry)) i) + (cell (now (exports .entry)) i + cell (now (adjustment .entry)) i)) ⌝ }
-{
-    for i in 0..n {
-        let domestic = portion_of(ONE - m[i], final_demand[i]);
-        f[i] = domestic + (exports[i] + adjustment[i]);
-    }
-}
-
 // d and f from a and m, and question 7 of d.
 pub fn finish(
     n: usize,
@@ -100,7 +81,7 @@ pub fn finish(
     requires { ⌜ ((k : ℕ) → (cell (now «final_demand») k ≤ amountLimit) × (cell (now exports) k ≤ amountLimit) × (cell (now adjustment) k ≤ amountLimit)) ⌝ }
     ensures { λ r. ⌜ report r ≡ verdict (columnSums n (at n (now (d .exit))) ∷ []) [] ⌝ }
     ensures { λ _. ⌜ now (d .exit) ≡ matrix n (λ i j. portion (one - cell (now (m .entry)) i) (at n (now (a .entry)) i j)) ⌝ }
-    ensures { λ _. ⌜ now (f .exit) ≡ tabulate n (λ i. portion (one - cell (now (m .entry)) i) (cell (now («final_demand» .entry)) i) + (cell (now (exports .entry)) i + cell (now (adjustment .entry)) i)) ⌝ }
+    ensures { λ _. ⌜ now (f .exit) ≡ domesticDemand n (now (m .entry)) (now («final_demand» .entry)) (now (exports .entry)) (now (adjustment .entry)) ⌝ }
 {
     fill_domestic(n, a, m, d);
     fill_demand(n, m, final_demand, exports, adjustment, f);

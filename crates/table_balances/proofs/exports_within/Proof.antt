@@ -1,17 +1,15 @@
 -- `table_balances::exports_within` meets its contract: no sector before i exports more than the limit with its adjustment item. Assumes nothing.
-use mathlib.Core.List.{[]}
 use Prim.Native.Nat.{_-_, _≤_}
 use native.Mathlib.Omega.{arith}
 use borrow.Author.Tests.{lt-leb, le-leb}
 use Rattle.model.specs.Numbers.{cell}
-use Rattle.model.specs.Table.{tableBy}
 use Rattle.model.specs.Checks.{amountLimit, exportsWithin}
 use Rattle.theory.proofs.Verdicts.{Scan, scan-none, scan-more, scan-failed-each, scan-passed}
 use Rattle.table_balances.proofs.exports_within.Statement.{statement}
 use Rattle.table_balances.proofs.exports_within.Tie as tie
 
 abbrev Inv-loop : tie.InvT-loop
-Inv-loop n exports item i₀ i = Scan (exportsWithin (tableBy n [] [] exports [] [] [] item)) i
+Inv-loop n exports item i₀ i = Scan (exportsWithin n exports item) i
 
 abbrev μ-loop : tie.MeasureT-loop
 μ-loop n exports item i₀ i = n - i

@@ -35,9 +35,12 @@ small q = entry (q .before .before) .pre .1 .1 .1 (q .before .before .loop .i)
 needed :
     (q : tie.After-need-of Inv-loop μ-loop) →
     let i = q .before .before .loop .i in
-    let t = table (entry (q .before .before)) in
-    q .need-of .result + adjustedExports t i ≡ need t i + adjustedExports t i
-needed q = ap (λ (k : ℕ). k + adjustedExports (table (entry (q .before .before))) (q .before .before .loop .i)) (q .need-of .ensures .0)
+    let s = entry (q .before .before) in
+    let abroad = adjustedExports (s .args .exports .now) (s .args .adjustment .now) i in
+    q .need-of .result + abroad ≡ need (table s) i + abroad
+needed q =
+    let a = entry (q .before .before) .args in
+    ap (λ (k : ℕ). k + adjustedExports (a .exports .now) (a .adjustment .now) (q .before .before .loop .i)) (q .need-of .ensures .0)
 
 need-of-requires : tie.Need-need-of-requires Inv-loop μ-loop
 need-of-requires c κs =

@@ -17,18 +17,22 @@ entry q = q .before .before .before .before .before .before .before .before
 abbrev table : tie.After-check-amounts → Table
 table q = let a = entry q .args in tableBy (a .n) (a .x .now) (a .final-demand .now) (a .exports .now) (a .imports .now) (a .value-added .now) (a .production .now) (a .adjustment .now)
 
+-- question 16
+abbrev abroad : tie.After-check-amounts → Check
+abroad q = exportsWithin (entry q .args .n) (entry q .args .exports .now) (entry q .args .adjustment .now)
+
 -- question 3, with question 16, with question 4, and with question 5
 abbrev third : tie.After-check-amounts → List Check
 third q = tableAmounts (table q)
 
 abbrev sixteenth : tie.After-check-amounts → List Check
-sixteenth q = third q ++ (exportsWithin (table q) ∷ [])
+sixteenth q = third q ++ (abroad q ∷ [])
 
 abbrev fourth : tie.After-check-amounts → List Check
-fourth q = third q ++ (exportsWithin (table q) ∷ columnBalances (table q) ∷ [])
+fourth q = third q ++ (abroad q ∷ columnBalances (table q) ∷ [])
 
 abbrev fifth : tie.After-check-amounts → List Check
-fifth q = third q ++ (exportsWithin (table q) ∷ columnBalances (table q) ∷ rowBalances (table q) ∷ [])
+fifth q = third q ++ (abroad q ∷ columnBalances (table q) ∷ rowBalances (table q) ∷ [])
 
 -- what question 3 says, and what was answered to questions 16, 4 and 5 after it
 small : (p : tie.After-enum-told) → TableAmounts (table (p .before .before))
@@ -39,7 +43,7 @@ small p =
 said-16 : (r : tie.After-exports-within) → report (r .exports-within .result) ≡ verdict (sixteenth (r .before .before .before)) []
 said-16 r =
     let q = r .before .before .before in
-    r .exports-within .ensures ∙ answered-on (third q) (q .check-amounts .ensures) (exportsWithin (table q) ∷ []) [] (r .before .enum-told .given .1)
+    r .exports-within .ensures ∙ answered-on (third q) (q .check-amounts .ensures) (abroad q ∷ []) [] (r .before .enum-told .given .1)
 
 said-4 : (r : tie.After-columns-balance) → report (r .columns-balance .result) ≡ verdict (fourth (r .before .before .before .before .before .before)) []
 said-4 r =

@@ -7,12 +7,12 @@ use borrow.Author.Needs.{needs}
 use lib.Dec.{lit<}
 use lib.ListN.{length}
 use Rattle.model.specs.Numbers.{one, at, cell}
-use Rattle.model.specs.Table.{Table, tableBy, inputCoefficient, valueAddedCoefficient, importCoefficient}
+use Rattle.model.specs.Table.{Table, tableBy, inputCoefficient, valueAddedCoefficient, importCoefficient, domesticDemand}
 use Rattle.model.specs.Checks.{Check, report, verdict, columnSums}
 use Rattle.model.specs.Calls.{tableChecks, inputCoefficients, valueAddedCoefficients, importCoefficients, domesticCoefficients, coefficientsReport}
 use Rattle.model.specs.declared.Answer.{Answer}
 use Rattle.theory.proofs.Verdicts.{answered-pass, answered-on, answered-end}
-use Rattle.theory_tables.proofs.Tables.{Accepted, accepted-table, nearest-shares, inputs-small, domestic-from, demand-from}
+use Rattle.theory_tables.proofs.Tables.{Accepted, accepted-table, nearest-shares, inputs-small, domestic-from}
 use Rattle.table_filling.proofs.fill_sheets.Statement.{statement}
 use Rattle.table_filling.proofs.fill_sheets.Tie as tie
 
@@ -61,6 +61,10 @@ imports-are : (i : tie.After-fill-import-shares) → i .fill-import-shares .last
 unfolding importCoefficients importCoefficient
 imports-are i = i .fill-import-shares .ensures
 
+-- f with these import shares
+abbrev demand-with : tie.After-enum-told → List ℕ → List ℕ
+demand-with p m = let a = start p .args in domesticDemand (a .n) m (a .final-demand .now) (a .exports .now) (a .adjustment .now)
+
 returns : tie.Need-returns
 unfolding coefficientsReport
 returns c =
@@ -80,7 +84,7 @@ returns-2 c =
     let e = r .finish .ensures in
     let d = e .1 .0 ∙ domestic-from t (passed p .sizes .some) (inputs-are i) (imports-are i) in (
       e .0 ∙ ap (λ (l : List ℕ). verdict (columnSums n (at n l) ∷ []) []) d ∙ answered-on (asked q) (q .check-called .ensures) (last q) [] (p .enum-told .given .1),
-      λ _. (inputs-are i, i .before .before .before .before .fill-shares .ensures, imports-are i, d, e .1 .1 ∙ demand-from t (imports-are i)),
+      λ _. (inputs-are i, i .before .before .before .before .fill-shares .ensures, imports-are i, d, e .1 .1 ∙ ap (λ (m : List ℕ). demand-with p m) (imports-are i)),
     )
 
 fill-inputs-requires : tie.Need-fill-inputs-requires

@@ -1,14 +1,14 @@
--- `table_sheets::fill_demand` meets its contract: the cells below i are those of the definition. Assumes nothing.
+-- `table_demand::fill_demand` meets its contract: the cells below i are those of the definition. Assumes nothing.
 use mathlib.Core.Path.{ap}
 use Prim.Native.Nat.{ℕ, _+_, _-_}
 use native.Mathlib.Nat.{mul-le-mul, sub-le}
 use native.Mathlib.Omega.{arith}
 use Rattle.model.specs.Numbers.{one, cell}
-use Rattle.model.specs.Table.{portion}
+use Rattle.model.specs.Table.{portion, domesticDemand}
 use Rattle.theory.proofs.Lists.{Front, front-none, front-set, front-done}
 use Rattle.theory.proofs.Shares.{portion-le}
-use Rattle.table_sheets.proofs.fill_demand.Statement.{statement}
-use Rattle.table_sheets.proofs.fill_demand.Tie as tie
+use Rattle.table_demand.proofs.fill_demand.Statement.{statement}
+use Rattle.table_demand.proofs.fill_demand.Tie as tie
 
 abbrev Inv-loop : tie.InvT-loop
 Inv-loop n m demand exports item f₀ i₀ f i = Front n (λ k. portion (one - cell m k) (cell demand k) + (cell exports k + cell item k)) f i
@@ -50,10 +50,13 @@ loop-again c =
     front-set (p .loop .inv) (q .loop-test .taken)
     (ap (λ (t : ℕ). t + (cell (a .exports .now) (p .loop .i) + cell (a .adjustment .now) (p .loop .i))) (c .before .before .portion-of .ensures))
 
+returns : tie.Need-returns Inv-loop μ-loop
+unfolding domesticDemand
+returns c = front-done (c .before .loop .inv) (c .loop-test .left)
+
 pub fill-demand-spec : {M : Type 1} → statement M
 fill-demand-spec =
     tie.close
     (tie.spec
     Inv-loop μ-loop (λ c. front-none (c .before .before .before .before .before .pre .0 .4)) (λ c. omega arith) (λ c. omega arith) (λ c. entry (c .before .before) .pre .1 .0 (c .before .before .loop .i) (c .before .loop-test .taken)) (λ c. omega arith) (λ c. omega arith) portion-of-requires (λ c. omega arith) (λ c. omega arith) (λ c. omega arith) (λ c. omega arith) add-f add-f-2
-    (λ c. omega arith) (λ c. omega arith) (λ c. omega arith) (λ c. omega arith) loop-again (λ c. omega arith)
-    (λ c. front-done (c .before .loop .inv) (c .loop-test .left)))
+    (λ c. omega arith) (λ c. omega arith) (λ c. omega arith) (λ c. omega arith) loop-again (λ c. omega arith) returns)
