@@ -1,7 +1,7 @@
 /*
  * Tawqeshim for C: input-output sheets, production, prices and multipliers of a region, in whole numbers.
  *
- * Each function does what the library's call of the same name does, and is proved to (crates/c_sheets, crates/c_tables, crates/c_files).
+ * Each function does what the library's call of the same name does, and is proved to (the crates of crates/c_*).
  * Link with libtawqeshim.so or with libtawqeshim.a, which scripts/shared-library builds. Both are for x86-64 Linux.
  *
  * A table has n sectors, 1 to 40, counted from 0. Matrices have n * n cells, row by row: the cell of row i and column j is cell i * n +
@@ -177,6 +177,29 @@ void tawqeshim_coefficients(
     uint8_t *number, size_t *place);
 
 /*
+ * The demand for domestic goods of a final demand, also of one that no table has, as that with a scheme in it. Asks 1, 2, 3, 16.
+ *
+ * Takes import shares m, final_demand, exports and adjustment, n cells each. Places of 3 run on through these four in this order, so
+ * exports[0] is place 2 * n. m is within one, an amount within its limit.
+ * Gives the demand in out, n cells: what is not imported of final demand, (TAWQESHIM_ONE - m) * final_demand / TAWQESHIM_ONE rounded
+ * down, plus exports and adjustment whole. With what tawqeshim_coefficients took and gave of a table it is that table's f.
+ *
+ * tawqeshim_production and tawqeshim_impact pass it at question 8. Of a final demand that is nowhere below another the demand is nowhere
+ * below the other's, so tawqeshim_impact does not refuse the two with 17. What is added to it is at most what was added to final demand,
+ * and all of it in a sector that imports nothing.
+ *
+ * A refusal sets every cell of out to 0, also where it has another length.
+ */
+void tawqeshim_domestic_demand(
+    size_t n,
+    const uint64_t *m, size_t m_length,
+    const uint64_t *final_demand, size_t final_demand_length,
+    const uint64_t *exports, size_t exports_length,
+    const uint64_t *adjustment, size_t adjustment_length,
+    uint64_t *out, size_t out_length,
+    uint8_t *number, size_t *place);
+
+/*
  * Merges sectors: from a table to one that has a sector for each group of its sectors. Asks 1, 2, 3, 16, 4, 5, 6, 18, 19.
  *
  * Takes the table as tawqeshim_coefficients does, with the same places of 3; and groups, g words of 64 bits, where g, their length, is
@@ -239,8 +262,8 @@ void tawqeshim_production(
  *
  * Takes domestic coefficients d, n * n cells; the demands before and after, n cells each, of which the second is nowhere below the first;
  * and the rounds allowed for each demand. 8 and 9 are asked of the first demand and then of the second. The place of 8 is the sector, in
- * both alike. Both are demands for domestic goods. A scheme is final demand, of which the import share m is bought elsewhere: with F the
- * final demand with the scheme, after has (TAWQESHIM_ONE - m) * F / TAWQESHIM_ONE, rounded down, plus exports and adjustment.
+ * both alike. Both are demands for domestic goods. A scheme is final demand, of which the import share is bought elsewhere:
+ * tawqeshim_domestic_demand gives before of the final demand without it, and after of that with it.
  * Gives in out, n cells, the production settled from after less that settled from before; in *rounds the larger of the two counts, which
  * may be that of the first. No sector falls, each rises by at least what was added to it, and all n together rise by less than
  * 20 * T + 20 * n, with T the total added. Equal demands give 0 in every sector. A budget of TAWQESHIM_PRODUCTION_BUDGET rounds always
@@ -440,6 +463,15 @@ static inline void tawqeshim_table_sheets(
         table->adjustment, n,
         sheets->inputs, n * n, sheets->value_shares, n, sheets->import_shares, n, sheets->domestic, n * n, sheets->demand, n,
         number, place);
+}
+
+/* tawqeshim_domestic_demand: the demand of another final demand than the table's, with the table's exports and adjustment and the
+   import_shares of its sheets, which are only read. */
+static inline void tawqeshim_table_demand(
+    size_t n, const struct tawqeshim_table *table, const struct tawqeshim_sheets *sheets, const uint64_t *final_demand,
+    uint64_t *out, uint8_t *number, size_t *place) {
+    tawqeshim_domestic_demand(
+        n, sheets->import_shares, n, final_demand, n, table->exports, n, table->adjustment, n, out, n, number, place);
 }
 
 /* tawqeshim_aggregate: merges the sectors of a table into g groups, one word each. */

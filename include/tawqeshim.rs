@@ -96,6 +96,17 @@ unsafe extern "C" {
         number: *mut u8, place: *mut usize,
     );
 
+    /// The demand for domestic goods of a final demand, also of one that no table has.
+    pub fn tawqeshim_domestic_demand(
+        n: usize,
+        m: *const u64, m_length: usize,
+        final_demand: *const u64, final_demand_length: usize,
+        exports: *const u64, exports_length: usize,
+        adjustment: *const u64, adjustment_length: usize,
+        out: *mut u64, out_length: usize,
+        number: *mut u8, place: *mut usize,
+    );
+
     /// Merges sectors: from a table to one that has a sector for each group of its sectors.
     pub fn tawqeshim_aggregate(
         n: usize,

@@ -11,10 +11,10 @@ use lib.ListN.{length}
 use Rattle.model.specs.Numbers.{at, transposed}
 use Rattle.model.specs.Table.{Table}
 use Rattle.model.specs.Rounds.{settling, inverseRounds, impactRounds}
-use Rattle.model.specs.Checks.{Report, reportRead, reportTold, Check, amountLimit, balanceChecks, bothSettle, verdict, columnSums, columnsSettle, demandChecks, demandLeft, demandLimit, inducedAmounts, lengths, productionTotal, riseLimit, single, size}
-use Rattle.model.specs.Calls.{coefficientsReport, domesticCoefficients, impactReport, impliedReport, inducedReport, inverseReport, matrixChecks, priceReport, productionReport, settlingChecks, tableChecks}
+use Rattle.model.specs.Checks.{Report, reportRead, reportTold, Check, amountLimit, balanceChecks, bothSettle, verdict, columnSums, columnsSettle, demandChecks, demandLeft, demandLimit, demandAmounts, exportsWithin, inducedAmounts, lengths, productionTotal, riseLimit, single, size}
+use Rattle.model.specs.Calls.{coefficientsReport, domesticCoefficients, domesticDemandReport, impactReport, impliedReport, inducedReport, inverseReport, matrixChecks, priceReport, productionReport, settlingChecks, tableChecks}
 use Rattle.model.specs.Aggregation.{partitioned, mergedWithin, aggregateChecks, aggregateReport}
-use Rattle.model.specs.Contracts.{Derived, Aggregated, Produced, Priced, Compared, Implied, Induced, Inverted, Slices, readingInto, FileRead, FileWritten, tableFrom, PagePrinted}
+use Rattle.model.specs.Contracts.{Derived, Demanded, Aggregated, Produced, Priced, Compared, Implied, Induced, Inverted, Slices, readingInto, FileRead, FileWritten, tableFrom, PagePrinted}
 use Rattle.model.specs.File.{Reading, answerOf}
 use Rattle.model.specs.Writer.{written, writerChecks, writerReport}
 use Rattle.model.specs.Page.{page, pageLimit, pageReport}
@@ -53,6 +53,12 @@ module _ (t : Table) (matrices lent : List ℕ) where
   aggregate-number groups =
       numbered (aggregateChecks t groups matrices lent) []
       (counted-pass (leb 1) 0 amountLimit (t .flows ∷ t .columns) (balanceChecks t) (partitioned t groups ∷ mergedWithin t groups ∷ []) refl refl)
+
+pub demand-number : (n : ℕ) (m F E G lent : List ℕ) → Numbered (domesticDemandReport n m F E G lent)
+unfolding domesticDemandReport
+demand-number n m F E G lent =
+    let columns = length m ∷ length F ∷ length E ∷ length G ∷ lent in
+    numbered (size n ∷ lengths n [] columns ∷ demandAmounts m F E G ++ (exportsWithin n E G ∷ [])) [] refl
 
 module _ (n : ℕ) (d : List ℕ) where
   pub production-number : (f : List ℕ) (budget : ℕ) (lent : List ℕ) → Numbered (productionReport n d f budget lent)
@@ -112,6 +118,9 @@ module _ {number place : ℕ} {counts : List ℕ} where
     pub derived-told : {t : Table} {a₀ v₀ m₀ d₀ f₀ a v m d f : List ℕ} → Derived t a₀ v₀ m₀ d₀ f₀ r a v m d f
         → Derived t a₀ v₀ m₀ d₀ f₀ (reportTold number place counts) a v m d f
     derived-told {t} made = rw (as-told r told (made .answer) (coefficients-number t _ _)) made
+
+    pub demanded-told : {n : ℕ} {m F E G o out : List ℕ} → Demanded n m F E G o r out → Demanded n m F E G o (reportTold number place counts) out
+    demanded-told {n} {m} {F} {E} {G} made = rw (as-told r told (made .answer) (demand-number n m F E G _)) made
 
     pub aggregated-told : {t u₀ u : Table} {groups sizes₀ sizes : List ℕ} → Aggregated t groups u₀ sizes₀ r u sizes
         → Aggregated t groups u₀ sizes₀ (reportTold number place counts) u sizes

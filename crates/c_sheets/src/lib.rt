@@ -2,14 +2,33 @@
 // the answer that comes through `&mut` numbers, where a refusal's counts are 0.
 use c_answers::tell_answer;
 use c_answers::tell_outcome;
+use domestic_demand::domestic_demand;
 use implied::implied_demand;
 use induced::induced;
 use inverse::inverse;
 use inverse::row;
 ghost use mathlib.Core.List.{[], _∷_};
 ghost use Rattle.model.specs.Checks.{reportTold};
-ghost use Rattle.model.specs.Contracts.{Implied, Induced, Inverted};
+ghost use Rattle.model.specs.Contracts.{Demanded, Implied, Induced, Inverted};
 ghost use Rattle.c_answers.specs.Told.{ToldRow};
+
+// The demand for domestic goods of a final demand. Asks 1, 2, 3, 16.
+#[no_mangle]
+pub extern "C" fn tawqeshim_domestic_demand(
+    n: usize,
+    m: &[u64],
+    final_demand: &[u64],
+    exports: &[u64],
+    adjustment: &[u64],
+    out: &mut [u64],
+    number: &mut u8,
+    place: &mut usize,
+)
+    ensures { λ _. ⌜ Demanded n (now (m .entry)) (now («final_demand» .entry)) (now (exports .entry)) (now (adjustment .entry)) (now (out .entry)) (reportTold (now (number .exit)) (now (place .exit)) []) (now (out .exit)) ⌝ }
+{
+    let answer = domestic_demand(n, m, final_demand, exports, adjustment, out);
+    tell_answer(answer, number, place);
+}
 
 // The demand for domestic goods behind a production. Asks 1, 2, 7, 8, 10.
 #[no_mangle]

@@ -5,7 +5,7 @@ use mathlib.Core.List.{List, []}
 use Prim.Native.Nat.{ℕ}
 use Rattle.model.specs.Table.{Table, finalDemand}
 use Rattle.model.specs.Checks.{Report, accepts, refuses}
-use Rattle.model.specs.Calls.{inputCoefficients, valueAddedCoefficients, importCoefficients, domesticCoefficients, domesticDemands}
+use Rattle.model.specs.Calls.{inputCoefficients, valueAddedCoefficients, importCoefficients, domesticCoefficients, tableDemand}
 use Rattle.model.specs.Figures.{figuresReport}
 use Rattle.page_sheets.specs.Sheets.{sheetsReport, Sheets}
 use Rattle.page_production.specs.Stages.{ProductionStage}
@@ -37,5 +37,5 @@ module _ (t : Table) {s : Report} {a v m d f : List ℕ} (w : Sheets t s a v m d
       yes : s .accepted ≡ true
       yes = ap (λ (r : Report). r .accepted) g
 
-      q : ProductionStage (t .sectors) (inputCoefficients t) (importCoefficients t) (valueAddedCoefficients t) (finalDemand t) (domesticCoefficients t) (domesticDemands t) r y value imports
+      q : ProductionStage (t .sectors) (inputCoefficients t) (importCoefficients t) (valueAddedCoefficients t) (finalDemand t) (domesticCoefficients t) (tableDemand t) r y value imports
       q = rw (w .inputs yes, w .values yes, w .imports yes, w .domestic yes, w .demand yes, same) at p

@@ -6,7 +6,7 @@ use native.Mathlib.Omega.{arith}
 use lib.ListN.{length, take, drop}
 use Rattle.model.specs.Table.{Table, tableOf, finalDemand}
 use Rattle.model.specs.Checks.{Report}
-use Rattle.model.specs.Calls.{coefficientsReport, inputCoefficients, valueAddedCoefficients, importCoefficients, domesticCoefficients, domesticDemands}
+use Rattle.model.specs.Calls.{coefficientsReport, inputCoefficients, valueAddedCoefficients, importCoefficients, domesticCoefficients, tableDemand}
 use Rattle.model.specs.Contracts.{Derived}
 use Rattle.theory.proofs.Verdicts.{output-given}
 use Rattle.page_sheets.specs.Sheets.{columnStart, tableIn, sheetsReport, Sheets}
@@ -27,7 +27,7 @@ module _ (t : Table) where
         values = λ h. w .values ∙ output-given r (length v₀) (valueAddedCoefficients t) h;
         imports = λ h. w .imports ∙ output-given r (length m₀) (importCoefficients t) h;
         domestic = λ h. w .domestic ∙ output-given r (length d₀) (domesticCoefficients t) h;
-        demand = λ h. w .demands ∙ output-given r (length f₀) (domesticDemands t) h;
+        demand = λ h. w .demands ∙ output-given r (length f₀) (tableDemand t) h;
       }
 
 -- the parts of the cells that the call is lent are the table's

@@ -7,7 +7,7 @@ use lib.ListN.{take, drop}
 use Rattle.model.specs.Numbers.{Cells}
 use Rattle.model.specs.Table.{Table, tableOf, sectorLimit}
 use Rattle.model.specs.Checks.{Report}
-use Rattle.model.specs.Calls.{coefficientsReport, inputCoefficients, valueAddedCoefficients, importCoefficients, domesticCoefficients, domesticDemands}
+use Rattle.model.specs.Calls.{coefficientsReport, inputCoefficients, valueAddedCoefficients, importCoefficients, domesticCoefficients, tableDemand}
 use Rattle.model.specs.File.{columnWord}
 
 -- the table of n sectors that lies in one list: x row by row from its start, and each column where its word's 40 cells start
@@ -27,4 +27,4 @@ pub record Sheets (t : Table) (r : Report) (a v m d f : Cells) : Type 0 where
   pub values : r .accepted ≡ true → v ≡ valueAddedCoefficients t
   pub imports : r .accepted ≡ true → m ≡ importCoefficients t
   pub domestic : r .accepted ≡ true → d ≡ domesticCoefficients t
-  pub demand : r .accepted ≡ true → f ≡ domesticDemands t
+  pub demand : r .accepted ≡ true → f ≡ tableDemand t

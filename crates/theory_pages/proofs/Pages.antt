@@ -13,7 +13,7 @@ use Rattle.model.specs.Numbers.{cell, at}
 use Rattle.model.specs.Table.{Table, finalDemand, portion, sectorLimit}
 use Rattle.model.specs.Rounds.{settling, intermediate, inducedValueAdded, inducedImports}
 use Rattle.model.specs.Checks.{Report, accepts, roundsOf, Check, verdict, refuses, size, lengths, bounded, countedOn, amountLimit, balanceChecks, columnSums}
-use Rattle.model.specs.Calls.{tableChecks, coefficientsReport, inputCoefficients, valueAddedCoefficients, importCoefficients, domesticCoefficients, domesticDemands, productionReport, inducedReport}
+use Rattle.model.specs.Calls.{tableChecks, coefficientsReport, inputCoefficients, valueAddedCoefficients, importCoefficients, domesticCoefficients, tableDemand, productionReport, inducedReport}
 use Rattle.model.specs.File.{Reading, reading}
 use Rattle.model.specs.Text.{digits, decimal, line}
 use Rattle.model.specs.Figures.{pageBudget, figuresReport, figuresProduction, figuresValue, figuresImports}
@@ -163,7 +163,7 @@ module _ (t : Table) (some-columns : 1 ≤ length (t .columns)) (few-columns : l
   d = domesticCoefficients t
 
   abbrev f : List ℕ
-  f = domesticDemands t
+  f = tableDemand t
 
   abbrev y : List ℕ
   y = figuresProduction t
