@@ -28,7 +28,7 @@ use Rattle.theory.proofs.Verdicts.{Passes, asked, single-failed, number-passes,
 use Rattle.theory_rounds.proofs.Answers.{InducedGiven, accepted-induced}
 use Rattle.theory_budgets.proofs.Budgets.{production-settles}
 use Rattle.theory_tables.proofs.Tables.{table-sizes}
-use Rattle.theory_tables.proofs.Prepared.{demands-small, table-accepted, matrix-is-accepted, production-accepted, induced-ready}
+use Rattle.theory_tables.proofs.Prepared.{table-demand-small, matrix-is-accepted, production-accepted, induced-ready}
 use Rattle.theory.proofs.Decimals.{first-digit, decimal-fits, line-fits}
 use Rattle.theory.proofs.Stores.{over-zeros}
 use Rattle.theory_files.proofs.Walks.{reading-holds}
@@ -241,7 +241,7 @@ module _ (t : Table) (some-columns : 1 ≤ length (t .columns)) (few-columns : l
       let v = valueAddedCoefficients t in
       let F = finalDemand t in
       let g = accepted-induced n a m v F y (n ∷ n ∷ []) (ap (λ (r : Report). r .accepted) (induces ok)) in
-      let small = demands-small t squares columns (table-accepted t squares columns ok) in
+      let small = table-demand-small t squares columns ok in
       sheet-fits n f y (figuresValue t) (figuresImports t) k (g .sizes .few)
       (λ i h. omega (arith, small i h))
       (production-printable n a m v F y (n ∷ n ∷ []) g)

@@ -2,7 +2,7 @@
 use mathlib.Core.Bool.{true}
 use mathlib.Core.List.{List, [], _∷_}
 use mathlib.Core.Path.{_≡_, sym, ap, _∙_, subst⁻¹}
-use Prim.Native.Nat.{ℕ, _≤_, _<_}
+use Prim.Native.Nat.{ℕ, _≤_}
 use lib.ListN.{length}
 use Rattle.model.specs.Numbers.{cell}
 use Rattle.model.specs.Table.{Table, tableBy, inputCoefficient, valueAddedCoefficient, importCoefficient, domesticCoefficient}
@@ -12,8 +12,8 @@ use Rattle.model.specs.Promises.{AcceptedMatrix}
 use Rattle.model.specs.Contracts.{Derived}
 use Rattle.theory.proofs.Verdicts.{output-given}
 use Rattle.theory_rounds.proofs.Promises.{accurate}
-use Rattle.theory_tables.proofs.Tables.{nearest-shares, demands-small}
-use Rattle.theory_tables.proofs.Prepared.{table-accepted, matrix-is-accepted}
+use Rattle.theory_tables.proofs.Tables.{nearest-shares}
+use Rattle.theory_tables.proofs.Prepared.{table-accepted, table-demand-small, matrix-is-accepted}
 use Rattle.theory_tables.proofs.Unadjusted.{unadjusted-report, unadjusted-demands}
 
 module _ (n : ℕ) (x finalDemand exports imports valueAdded production adjustment : List ℕ) where
@@ -35,7 +35,7 @@ module _ (n : ℕ) (x finalDemand exports imports valueAdded production adjustme
         domestic = is-d;
         demands = is-f;
         withinLimit = λ ok i h.
-            subst⁻¹ (λ (l : List ℕ). cell l i ≤ demandLimit) (is-f ∙ output-given r (length f₀) (tableDemand t) ok) (small ok i h);
+            subst⁻¹ (λ (l : List ℕ). cell l i ≤ demandLimit) (is-f ∙ output-given r (length f₀) (tableDemand t) ok) (table-demand-small t matrices lent (told ok) i h);
         unadjusted = λ none.
             record {
               answer = answer ∙ ap (λ (g : List ℕ). coefficientsReport (table g) matrices lent) none ∙ unadjusted-report n x finalDemand exports imports valueAdded production matrices lent;
@@ -63,6 +63,3 @@ module _ (n : ℕ) (x finalDemand exports imports valueAdded production adjustme
 
       told : r .accepted ≡ true → coefficientsReport t matrices lent .accepted ≡ true
       told ok = sym (ap (λ (q : Report). q .accepted) answer) ∙ ok
-
-      small : r .accepted ≡ true → (i : ℕ) → i < n → cell (tableDemand t) i ≤ demandLimit
-      small ok = let A = table-accepted t matrices lent (told ok) in demands-small t (A .balance) (A .small)

@@ -52,9 +52,12 @@ module _ (t : Table) (matrices lent : List ℕ) (ok : coefficientsReport t matri
   unfolding coefficientsReport
   passes = all-pass-parts (tableChecks t matrices lent) seventh (accepted-all (tableChecks t matrices lent ++ seventh) [] ok)
 
-  -- the table, and its domestic matrix
+  -- the table, its f, which is within the limit of question 8, and its domestic matrix
   pub table-accepted : Accepted t matrices lent
   table-accepted = accepted-table t matrices lent (passes .0)
+
+  pub table-demand-small : (i : ℕ) → i < t .sectors → cell (tableDemand t) i ≤ demandLimit
+  table-demand-small = demands-small t (table-accepted .balance) (table-accepted .small)
 
   pub matrix-is-accepted : AcceptedMatrix (t .sectors) (domesticCoefficients t)
   matrix-is-accepted =
@@ -82,7 +85,7 @@ module _ (t : Table) (matrices lent : List ℕ) (ok : coefficientsReport t matri
       pass-on (matrixChecks n d [] (length f ∷ n ∷ n ∷ [])) (bounded 8 0 demandLimit f ∷ last) k
       (matrix-accepted n d [] (length f ∷ n ∷ n ∷ []) matrix-is-accepted refl slices)
       ∙ pass-on (bounded 8 0 demandLimit f ∷ []) last k
-      (λ i h. le-leb (cell f i) demandLimit (demands-small t (table-accepted .balance) (table-accepted .small) i (rw (length-demands t) at h)), tt)
+      (λ i h. le-leb (cell f i) demandLimit (table-demand-small i (rw (length-demands t) at h)), tt)
 
   -- so it is accepted with every budget that settles every production
   pub production-accepted : (budget : ℕ) → productionBudget ≤ budget
@@ -94,7 +97,7 @@ module _ (t : Table) (matrices lent : List ℕ) (ok : coefficientsReport t matri
       let f = tableDemand t in
       let k = settling (t .sectors) (at (t .sectors) (domesticCoefficients t)) f budget in
       production-ready budget
-      ∙ single-passed 9 [] (k ∷ []) (le-leb k budget (production-settles matrix-is-accepted f (demands-small t (table-accepted .balance) (table-accepted .small)) budget h))
+      ∙ single-passed 9 [] (k ∷ []) (le-leb k budget (production-settles matrix-is-accepted f (table-demand-small) budget h))
 
   -- Theorem, for the reader: document 02, ticket 3, "The accuracy rule now speaks of demands that include G". The production that is settled from an
   -- accepted table's f, here written out, is near every exact balance of that f
@@ -163,4 +166,4 @@ module _ (t : Table) (matrices lent : List ℕ) (ok : coefficientsReport t matri
           (accepted-settled (t .sectors) (domesticCoefficients t) c demandLimit (tableDemand t) budget (t .sectors ∷ t .sectors ∷ []) settles .1)
 
       total : sum (t .sectors) (cell y) ≤ productionLimit
-      total = settled-total matrix-is-accepted (tableDemand t) (demands-small t (table-accepted .balance) (table-accepted .small)) budget
+      total = settled-total matrix-is-accepted (tableDemand t) (table-demand-small) budget
