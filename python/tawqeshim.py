@@ -8,6 +8,7 @@ Input coefficients and the shares of value added and imports are to the nearest 
 down.
 
     coefficients             from a table to its sheets: coefficients, shares, and the demand for domestic goods
+    domestic_demand          from a final demand, as that with a scheme in it, to the demand for domestic goods
     aggregate                from a table to one with fewer sectors: groups of sectors are merged
     production               from a demand for domestic goods to production
     impact                   the rise of production from one demand to a second: what a scheme adds
@@ -86,10 +87,10 @@ from pathlib import Path
 from typing import Any, Callable, NamedTuple, NoReturn, Optional, Protocol, TypeVar, Union, cast, overload
 
 # tawqeshim/py.typed, beside this file, tells type checkers that it is typed. Python imports this file: the folder has no __init__.py.
-__version__ = "3.2.0"
+__version__ = "3.3.0"
 __all__ = ["PRODUCTION_BUDGET", "PRICE_BUDGET", "QUESTIONS", "Refused", "Coefficients", "Production", "Impact", "Prices", "Induced",
-           "Inverse", "Table", "Aggregate", "coefficients", "aggregate", "production", "impact", "price", "implied_demand", "induced",
-           "inverse", "row", "read_table", "write_table", "page"]
+           "Inverse", "Table", "Aggregate", "coefficients", "domestic_demand", "aggregate", "production", "impact", "price", "implied_demand",
+           "induced", "inverse", "row", "read_table", "write_table", "page"]
 
 # The rounds that always suffice: of production and impact, and of price and inverse.
 PRODUCTION_BUDGET = 1400
@@ -533,13 +534,20 @@ def _new_matrix(n: int) -> _Slice:
     return (ctypes.c_uint64 * (min(n, _SECTORS) ** 2))()
 
 
-def _listed(flows: "Matrix", columns: "dict[str, Column]", others: "dict[str, Optional[Column]]",
-            n: Optional[int]) -> tuple[_Sectors, dict[str, _Slice]]:
-    """The slices of a table that is given in lists. Others that are left out are n zeros."""
+def _columns(columns: "dict[str, Column]", others: "dict[str, Optional[Column]]",
+             n: Optional[int]) -> tuple[_Sectors, dict[str, _Slice]]:
+    """The slices of columns, final demand among them. Others that are left out are n zeros."""
     slices = {name: _column(name, cells) for name, cells in columns.items()}
     sectors = _size(n, "final_demand", slices["final_demand"])
     for name, cells in others.items():
         slices[name] = _new_column(sectors.n) if cells is None else _column(name, cells)
+    return sectors, slices
+
+
+def _listed(flows: "Matrix", columns: "dict[str, Column]", others: "dict[str, Optional[Column]]",
+            n: Optional[int]) -> tuple[_Sectors, dict[str, _Slice]]:
+    """The slices of a table that is given in lists."""
+    sectors, slices = _columns(columns, others, n)
     return sectors, {"flows": _matrix("flows", flows), **slices}
 
 
@@ -682,6 +690,35 @@ def coefficients(flows: "Union[Table, Matrix]", final_demand: "Optional[Column]"
     return Coefficients(a[:], v[:], m[:], d[:], f[:])
 
 
+def domestic_demand(import_shares: "Column", final_demand: "Column", exports: "Optional[Column]" = None,
+                    adjustment: "Optional[Column]" = None, *, n: Optional[int] = None) -> list[int]:
+    """The demand for domestic goods of a final demand, also of one that no table has, as that with a scheme in it. Asks 1, 2, 3, 16. Exports
+    and adjustment that are left out are n zeros. The places of 3 run on through the four columns in their order.
+
+    In each sector it is what is not imported of final demand, rounded down, and exports and adjustment whole. `import_shares` are the
+    sheet `imports` that `coefficients` gives. With them, and the final demand, exports and adjustment of the table, it is the table's own
+    `demand`. A scheme is added to final demand; a quarter of what it spends on goods of sector 0 is imported:
+
+    >>> domestic_demand([250_000, 200_000], [500, 900], [250, 560])
+    [625, 1280]
+    >>> domestic_demand([250_000, 200_000], [600, 900], [250, 560])
+    [700, 1280]
+
+    `production` and `impact` never refuse it with question 8. A final demand that is nowhere below another has a demand that is nowhere
+    below the other's, so `impact` does not refuse the two with 17. What is added is at most what is spent, and all of it where nothing is
+    imported.
+
+    >>> domestic_demand([250_000, 200_000], [500, 900], [250, 1_000_000_000], [0, 1])
+    Traceback (most recent call last):
+    tawqeshim.Refused: question 16, place 1: are a sector's exports and adjustment together within 1,000,000,000?
+    """
+    sectors, slices = _columns({"import_shares": import_shares, "final_demand": final_demand},
+                               {"exports": exports, "adjustment": adjustment}, n)
+    out = _new_column(sectors.n)
+    _ask_of("domestic_demand", sectors, slices, out)
+    return out[:]
+
+
 def aggregate(table: Table, groups: "Groups") -> Aggregate:
     """Merges the sectors of a table: group k of `groups` becomes sector k. Asks 1, 2, 3, 16, 4, 5, 6, 18, 19.
 
@@ -759,8 +796,8 @@ def impact(domestic: "Matrix", before: "Column", after: "Column", budget: int = 
     No sector falls, each rises by at least what was added to it, and all n sectors together rise by less than 20 * T + 20 * n, with T the
     total added. Equal demands give 0 in every sector. The default budget always suffices.
 
-    Both are demands for domestic goods. A scheme is final demand, of which the import share is bought elsewhere: with F the final demand
-    with the scheme and m, E and G of the table, `after` is (one - m) * F / one, rounded down, plus E and G, in each sector.
+    Both are demands for domestic goods. A scheme is final demand, of which the import share is bought elsewhere: `domestic_demand` gives
+    `before` of the final demand without it, and `after` of that with it.
 
     >>> domestic = [[75_000, 150_000], [240_000, 240_000]]
     >>> impact(domestic, [625, 1280], [635, 1280])

@@ -1,5 +1,5 @@
-"""Tests of python/tawqeshim.py: refusals, what it takes as cells and what it does not, how shares are rounded, what schemes add, the
-slowest sheets, its library, the worked table from its file to its page, tables written as files, merged tables, its records, help and
+"""Tests of python/tawqeshim.py: refusals, what it takes as cells and what it does not, how shares are rounded, demands for domestic
+goods, what schemes add, the slowest sheets, its library, the worked table from its file to its page, tables written as files, merged tables, its records, help and
 types. Tests of numpy, pandas and mypy are skipped where these are not installed."""
 import copy
 import ctypes
@@ -111,6 +111,18 @@ class Refusals(Refusing):
         self.refused(1, 0, t.impact, [], [], [])
         self.assertEqual(t.QUESTIONS[17], "is the second demand nowhere below the first?")
 
+    def test_domestic_demand(self):
+        self.refused(1, 0, t.domestic_demand, [], [])
+        self.refused(1, 0, t.domestic_demand, [0] * 41, [0] * 41)
+        one, limit = 1_000_000, 10**9
+        # 3 through the four columns, an earlier one first; then 16
+        wrong = [[0, one + 1], [0, limit + 1], [0, limit + 1], [0, limit + 1]]
+        within = [[one, one], [limit, limit], [limit, limit], [0, limit]]
+        for k in range(4):
+            self.refused(3, 2 * k + 1, t.domestic_demand, *within[:k], *wrong[k:])
+        self.refused(3, 0, t.domestic_demand, [2**64 - 1, 0], [0, 0])
+        self.refused(16, 1, t.domestic_demand, *within)
+
     def test_wrong_lengths_are_the_librarys_to_refuse(self):
         for name in [*table(), "adjustment"]:
             self.refused(2, 0, t.coefficients, **table(**{name: [0] * 3}), n=2)
@@ -119,6 +131,8 @@ class Refusals(Refusing):
         self.refused(2, 0, t.price, DOMESTIC[:3], DEMAND)
         for before, after in ((DEMAND, DEMAND + [0]), (DEMAND + [0], DEMAND), (DEMAND, []), ([], DEMAND)):
             self.refused(2, 0, t.impact, DOMESTIC, before, after, n=2)
+        for k in range(4):
+            self.refused(2, 0, t.domestic_demand, *([0] * (3 if j == k else 2) for j in range(4)), n=2)
         self.refused(2, 0, t.implied_demand, array("Q", DOMESTIC), array("Q"), n=2)
         self.refused(2, 0, t.induced, FLOWS, [0], [0, 0], [0, 0], [0, 0])
         self.refused(2, 0, t.inverse, DOMESTIC[:3])
@@ -133,6 +147,8 @@ class Refusals(Refusing):
                 ("n is 2, the length of before; after has length 3, not 2", t.impact, DOMESTIC, DEMAND, DEMAND + [0]),
                 ("n is 3, the length of before; domestic has length 4, not 9; after has length 2, not 3",
                  t.impact, DOMESTIC, DEMAND + [0], DEMAND),
+                ("n is 2, the length of final_demand; import_shares has length 1, not 2; adjustment has length 3, not 2",
+                 t.domestic_demand, [0], [1, 2], None, [0, 0, 0]),
                 ("n is 1, the length of production; domestic has length 4, not 1", t.implied_demand, DOMESTIC, [1]),
                 ("n is 2, the length of production; imports has length 1, not 2", t.induced, FLOWS, [0], [0, 0], [0, 0], [0, 0]),
                 ("n is 1, the root of the length of domestic, rounded down; domestic has length 3, not 1", t.inverse, DOMESTIC[:3]),
@@ -208,6 +224,12 @@ class Sequences(Given):
         for call, name in ((t.price, "rises"), (t.implied_demand, "production"), (t.production, "demand")):
             with self.assertRaisesRegex(TypeError, f"^{name} is a dict, "):
                 call(DOMESTIC, {0: 1, 1: 2})
+        names = ["import_shares", "final_demand", "exports", "adjustment"]
+        for name in names:
+            with self.assertRaisesRegex(TypeError, f"^{name} is a dict, "):
+                t.domestic_demand(**{**dict.fromkeys(names, [1]), name: {0: 1}})
+            with self.assertRaisesRegex(ValueError, rf"^{name}\[1\] is -7, below 0$"):
+                t.domestic_demand(**{**dict.fromkeys(names, [0, 0]), name: [0, -7]})
         for name in ("domestic", "before", "after"):
             given = {"domestic": DOMESTIC, "before": DEMAND, "after": DEMAND}
             with self.assertRaisesRegex(TypeError, f"^{name} is a dict, "):
@@ -540,6 +562,55 @@ class Tables(Refusing):
                 t.coefficients(given)
         with self.assertRaisesRegex(TypeError, "^flows is a NoneType, "):
             t.coefficients(**table(flows=None))
+
+
+class Demands(unittest.TestCase):
+    """Demands for domestic goods of final demands."""
+
+    SHARES = [250_000, 200_000]
+    FILES = sorted((ROOT / "examples").glob("*.table"))
+
+    def test_worked(self):
+        final, exports = COLUMNS[:2]
+        for given, expected in [
+                ([self.SHARES, final, exports], DEMAND), ([self.SHARES, [600, 900], exports], [700, 1280]),
+                ([[300_000, 250_000], final, exports, ADJUSTMENT], [650, 1325]),
+                ([array("q", self.SHARES), (500.0, 900), None, exports], DEMAND), ([self.SHARES, final], [375, 720]),
+                ([[333_333] * 2, [1, 2]], [0, 1]), ([[1_000_000] * 2, [7, 7], [2, 0], [0, 3]], [2, 3]),
+                ([[0] * 2, [10**9, 0], [10**9 - 1, 0], [1, 0]], [2 * 10**9, 0])]:
+            self.assertEqual(t.domestic_demand(*given), expected)
+
+    def test_a_table_has_its_own(self):
+        accepted = 0
+        for file in self.FILES:
+            try:
+                table = t.read_table(file.read_bytes())
+                sheets = t.coefficients(table)
+            except t.Refused:
+                continue
+            accepted += 1
+            own = t.domestic_demand(sheets.imports, table.final_demand, table.exports, table.adjustment)
+            self.assertEqual(own, sheets.demand, file.name)
+        self.assertGreater(accepted, 2)
+
+    def test_a_scheme_in_each_sector(self):
+        table = t.read_table((ROOT / "examples/sectors37.table").read_bytes())
+        sheets = t.coefficients(table)
+        for i in range(table.sectors):
+            for spent in (1, 500, 123_457):
+                final = [*table.final_demand]
+                final[i] += spent
+                after = t.domestic_demand(sheets.imports, final, table.exports, table.adjustment)
+                added = [b - a for a, b in zip(sheets.demand, after)]
+                inside = (1_000_000 - sheets.imports[i]) * spent // 1_000_000
+                self.assertIn(added.pop(i), (inside, min(inside + 1, spent)))
+                self.assertEqual(set(added), {0})
+                self.assertLess(t.impact(sheets.domestic, sheets.demand, after).rounds, t.PRODUCTION_BUDGET)
+
+    def test_nothing_is_changed(self):
+        given = [self.SHARES[:], *(column[:] for column in COLUMNS[:2])]
+        t.domestic_demand(*given)
+        self.assertEqual(given, [self.SHARES, *COLUMNS[:2]])
 
 
 class Schemes(unittest.TestCase):
@@ -1109,6 +1180,7 @@ sheets = tawqeshim.coefficients(table)
 domestic: list[int] = sheets.domestic
 made = tawqeshim.production(domestic, sheets.demand)
 amounts: list[int] = made.amounts
+after: list[int] = tawqeshim.domestic_demand(sheets.imports, [600, 900], [250, 560])
 merged: tawqeshim.Table = tawqeshim.aggregate(table, [[0, 1]]).table
 tawqeshim.coefficients(*table[2:9])
 """
