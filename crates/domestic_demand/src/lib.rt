@@ -16,12 +16,7 @@ ghost use Rattle.model.specs.Calls.{domesticDemandReport};
 ghost use Rattle.model.specs.Contracts.{Demanded};
 
 // Question 3: import shares within one, amounts within 1,000,000,000. Places are counted on through the slices.
-fn check_amounts(
-    m: &[u64],
-    final_demand: &[u64],
-    exports: &[u64],
-    adjustment: &[u64],
-) -> Answer
+fn check_amounts(m: &[u64], final_demand: &[u64], exports: &[u64], adjustment: &[u64]) -> Answer
     ensures { λ r. ⌜ report r ≡ verdict (demandAmounts (now (m .entry)) (now («final_demand» .entry)) (now (exports .entry)) (now (adjustment .entry))) [] ⌝ }
 {
     let shares = cells_within(3, 0, ONE, m);

@@ -3,19 +3,21 @@ use mathlib.Core.Bool.{true}
 use mathlib.Core.List.{List, [], _∷_, _++_}
 use mathlib.Core.Path.{_≡_, refl, sym, ap, _∙_, subst⁻¹}
 use Prim.Native.Nat.{ℕ, _+_, _≤_, _<_}
-use native.Mathlib.Nat.{le-trans}
+use native.Mathlib.Nat.{le-refl, le-trans}
 use borrow.Author.Tests.{le-leb, leb-true}
-use lib.Dec.{lit<}
+use lib.Dec.{leb, lit<}
 use lib.ListN.{length}
-use Rattle.model.specs.Numbers.{one, cell}
+use Rattle.model.specs.Numbers.{one, cell, at}
 use Rattle.model.specs.Table.{Table, tableBy, adjustedExports, domesticDemand}
-use Rattle.model.specs.Checks.{Report, Check, accepts, verdict, output, size, lengths, amountLimit, demandLimit, demandAmounts, exportsWithin, demandChecks}
-use Rattle.model.specs.Calls.{coefficientsReport, importCoefficients, tableDemand, domesticDemandReport}
-use Rattle.model.specs.Promises.{NowhereBelow, added, OrderedInside}
+use Rattle.model.specs.Rounds.{settling, impactRounds}
+use Rattle.model.specs.Checks.{Report, Check, accepts, verdict, output, size, lengths, amountLimit, demandLimit, demandAmounts, exportsWithin, demandChecks, bothSettle, productionBudget}
+use Rattle.model.specs.Calls.{coefficientsReport, importCoefficients, tableDemand, domesticDemandReport, matrixChecks, impactReport}
+use Rattle.model.specs.Promises.{AcceptedMatrix, NowhereBelow, added, OrderedInside}
 use Rattle.model.specs.Contracts.{Demanded}
 use Rattle.theory.specs.Slices.{Each}
 use Rattle.theory.proofs.Lists.{equal-each}
-use Rattle.theory.proofs.Verdicts.{Passes, AllPass, accepted-all, all-accepted, all-pass-both, all-pass-parts, output-given, sized, size-passes, lengths-pass}
+use Rattle.theory.proofs.Verdicts.{Passes, AllPass, accepted-all, all-accepted, all-pass-both, all-pass-parts, output-given, sized, size-passes, lengths-pass, matrix-accepted}
+use Rattle.theory_budgets.proofs.Budgets.{production-settles}
 use Rattle.theory_tables.proofs.Demands.{length-demand, demand-small, demand-rises, demand-parts}
 use Rattle.theory_tables.proofs.Tables.{bounded-cell, nearest-shares}
 use Rattle.theory_tables.proofs.Prepared.{length-imports, table-accepted}
@@ -69,6 +71,41 @@ module _ (n : ℕ) (m F E G lent : List ℕ) where
         abroad = λ i h. leb-true _ _ (q .1 .0 i h);
       }
 
+-- and the demands of two final demands, the second nowhere below the first: within the limit of question 8, and not falling
+module _ (n : ℕ) (m before F E G lent : List ℕ) (g : DemandGiven n m F E G lent) where
+  pub demand-within : (H : List ℕ) → NowhereBelow n H F → (i : ℕ) → i < n → cell (domesticDemand n m H E G) i ≤ demandLimit
+  demand-within H below i h = demand-small n m H E G i h (le-trans (below i h) (g .small .amounts i .0)) (g .abroad i h)
+
+  pub demands-pass : NowhereBelow n before F → AllPass (demandChecks n (domesticDemand n m before E G) (domesticDemand n m F E G))
+  demands-pass grows = (
+    λ i h. le-leb _ _ (demand-within before grows i (rw (length-demand n m before E G) at h)),
+    (
+      λ i h. le-leb _ _ (demand-within F (λ j k. le-refl (cell F j)) i (rw (length-demand n m F E G) at h)),
+      (λ i h. le-leb _ _ (demand-rises n m before F E G grows i h), tt),
+    ),
+  )
+
+  -- Theorem, for the reader: so what a scheme adds is never refused. On an accepted sheet, with a budget that settles every production, `impact` accepts
+  -- the two
+  pub scheme-accepted : {d : List ℕ} → AcceptedMatrix n d → NowhereBelow n before F → (budget : ℕ) → productionBudget ≤ budget
+      → impactReport n d (domesticDemand n m before E G) (domesticDemand n m F E G) budget (n ∷ n ∷ []) .accepted ≡ true
+  unfolding impactReport
+  scheme-accepted {d} A grows budget enough =
+      let s = domesticDemand n m before E G in
+      let t = domesticDemand n m F E G in
+      let slices = length s ∷ length t ∷ n ∷ n ∷ [] in
+      let each : Each n slices = (length-demand n m before E G, (length-demand n m F E G, (refl, (refl, tt)))) in
+      let asked = matrixChecks n d [] slices ++ demandChecks n s t in
+      let k = impactRounds n (at n d) s t budget ∷ [] in
+      ap (λ (r : Report). r .accepted)
+      (all-accepted (asked ++ bothSettle n (at n d) s t budget) k
+      (all-pass-both asked (bothSettle n (at n d) s t budget)
+      (all-pass-both (matrixChecks n d [] slices) (demandChecks n s t) (matrix-accepted n d [] slices A refl (equal-each n slices each)) (demands-pass grows))
+      (λ _ _. settles s (demand-within before grows), (λ _ _. settles t (demand-within F (λ j k. le-refl (cell F j))), tt))))
+    where
+      settles : (f : List ℕ) → ((i : ℕ) → i < n → cell f i ≤ demandLimit) → leb (settling n (at n d) f budget) budget ≡ true
+      settles f small = le-leb _ _ (production-settles A f small budget enough)
+
 -- with what a table has, all of them pass
 table-passes : (n : ℕ) (x F E imports valueAdded production G : List ℕ) (matrices others lent : List ℕ)
     → let t = tableBy n x F E imports valueAdded production G in
@@ -103,34 +140,27 @@ module _ {n : ℕ} {m F E G out₀ : List ℕ} {r : Report} {out : List ℕ} whe
       record {
         answer = answer;
         outputs = result;
-        ofTable = λ x imports valueAdded production matrices lent ok e l.
+        ofTable = λ x imports valueAdded production matrices others ok e l.
             let t = tableBy n x F E imports valueAdded production G in
             let yes : r ≡ accepts [] =
-            answer ∙ ap (λ (s : List ℕ). domesticDemandReport n s F E G (length out₀ ∷ [])) e
-            ∙ table-passes n x F E imports valueAdded production G matrices lent (length out₀ ∷ []) ok (l, tt) in
+            answer ∙ ap (λ (s : List ℕ). domesticDemandReport n s F E G lent) e
+            ∙ table-passes n x F E imports valueAdded production G matrices others lent ok (l, tt) in
             (yes, is (ap (λ (q : Report). q .accepted) yes) ∙ ap (λ (s : List ℕ). domesticDemand n s F E G) e);
-        withinLimit = λ ok. subst⁻¹ (λ (l : List ℕ). (i : ℕ) → i < n → cell l i ≤ demandLimit) (is ok) (small ok F (λ i h. given ok .small .amounts i .0));
+        withinLimit = λ ok. subst⁻¹ (λ (l : List ℕ). (i : ℕ) → i < n → cell l i ≤ demandLimit) (is ok) (demand-within n m F F E G lent (given ok) F (λ i h. le-refl (cell F i)));
         rises = λ ok before grows. subst⁻¹ (NowhereBelow n (domesticDemand n m before E G)) (is ok) (demand-rises n m before F E G grows);
         comparable = λ ok before grows.
             let s = domesticDemand n m before E G in
             subst⁻¹ (λ (l : List ℕ). verdict (demandChecks n s l) [] ≡ accepts []) (is ok)
-            (all-accepted (demandChecks n s (domesticDemand n m F E G)) [] (
-              λ i h. le-leb _ _ (small ok before (λ j k. le-trans (grows j k) (given ok .small .amounts j .0)) i (rw (length-demand n m before E G) at h)),
-              (
-                λ i h. le-leb _ _ (small ok F (λ j k. given ok .small .amounts j .0) i (rw (length-demand n m F E G) at h)),
-                (λ i h. le-leb _ _ (demand-rises n m before F E G grows i h), tt),
-              ),
-            ));
+            (all-accepted (demandChecks n s (domesticDemand n m F E G)) [] (demands-pass n m before F E G lent (given ok) grows));
         parts = λ ok before grows.
             subst⁻¹ (λ (l : List ℕ). OrderedInside n m (added before F) (added (domesticDemand n m before E G) l)) (is ok) (demand-parts n m before F E G grows);
       }
     where
-      given : r .accepted ≡ true → DemandGiven n m F E G (length out₀ ∷ [])
-      given = accepted-demand n m F E G (length out₀ ∷ []) answer
+      lent : List ℕ
+      lent = length out₀ ∷ []
+
+      given : r .accepted ≡ true → DemandGiven n m F E G lent
+      given = accepted-demand n m F E G lent answer
 
       is : r .accepted ≡ true → out ≡ domesticDemand n m F E G
       is ok = result ∙ output-given r (length out₀) (domesticDemand n m F E G) ok
-
-      -- of a final demand within the limit of amounts
-      small : r .accepted ≡ true → (H : List ℕ) → ((i : ℕ) → i < n → cell H i ≤ amountLimit) → (i : ℕ) → i < n → cell (domesticDemand n m H E G) i ≤ demandLimit
-      small ok H within i h = demand-small n m H E G i h (within i h) (given ok .abroad i h)
