@@ -10,6 +10,7 @@ pub const PAGE_BYTES: usize = TAWQESHIM_PAGE;
 #[derive(Clone, Copy, Debug, PartialEq, Eq)]
 pub enum Call {
     Coefficients,
+    DomesticDemand,
     Aggregate,
     Production,
     Impact,
@@ -23,8 +24,9 @@ pub enum Call {
     Page,
 }
 
-pub const CALLS: [Call; 12] = [
+pub const CALLS: [Call; 13] = [
     Call::Coefficients,
+    Call::DomesticDemand,
     Call::Aggregate,
     Call::Production,
     Call::Impact,
@@ -42,6 +44,7 @@ impl Call {
     pub fn name(self) -> &'static str {
         match self {
             Call::Coefficients => "coefficients",
+            Call::DomesticDemand => "domestic_demand",
             Call::Aggregate => "aggregate",
             Call::Production => "production",
             Call::Impact => "impact",
@@ -62,6 +65,7 @@ impl Call {
     pub fn numbers(self) -> &'static [u8] {
         match self {
             Call::Coefficients => &[0, 1, 2, 3, 4, 5, 6, 7, 16],
+            Call::DomesticDemand => &[0, 1, 2, 3, 16],
             Call::Aggregate => &[0, 1, 2, 3, 4, 5, 6, 16, 18, 19],
             Call::Production | Call::Price => &[0, 1, 2, 7, 8, 9],
             Call::Impact => &[0, 1, 2, 7, 8, 9, 17],
@@ -79,6 +83,7 @@ impl Call {
     pub fn given_lengths(self, n: usize) -> Vec<usize> {
         match self {
             Call::Coefficients => vec![n * n, n, n, n, n, n, n],
+            Call::DomesticDemand => vec![n, n, n, n],
             Call::Aggregate => vec![n * n, n, n, n, n, n, n, n],
             Call::Production | Call::Price | Call::ImpliedDemand => vec![n * n, n],
             Call::Impact => vec![n * n, n, n],
@@ -95,7 +100,7 @@ impl Call {
             Call::Coefficients => vec![n * n, n, n, n * n, n],
             Call::Aggregate => vec![n * n, n, n, n, n, n, n, n],
             Call::Production | Call::Impact | Call::Price | Call::Induced => vec![n, n],
-            Call::ImpliedDemand => vec![n],
+            Call::DomesticDemand | Call::ImpliedDemand => vec![n],
             Call::Inverse => vec![n * n, n, n],
             Call::Row => vec![],
             Call::ReadTable => reference::FILE_LENGTHS.to_vec(),
@@ -176,6 +181,7 @@ pub fn by_reference(case: &Case) -> Outcome {
         Call::Coefficients => reference::coefficients(
             *n, &given[0], &given[1], &given[2], &given[3], &given[4], &given[5], &given[6], lent,
         ),
+        Call::DomesticDemand => reference::domestic_demand(*n, &given[0], &given[1], &given[2], &given[3], lent),
         Call::Aggregate => reference::aggregate(*n, std::array::from_fn(|k| &given[k][..]), &given[GROUPS], lent),
         Call::Production => reference::production(*n, &given[0], &given[1], *budget, lent),
         Call::Impact => reference::impact(*n, &given[0], &given[1], &given[2], *budget, lent),
@@ -264,6 +270,12 @@ pub fn by_library(case: &Case) -> Result<Outcome, &'static str> {
                     n, g(0), gl(0), g(1), gl(1), g(2), gl(2), g(3), gl(3), g(4), gl(4), g(5), gl(5), g(6), gl(6),
                     l(0), ll(0), l(1), ll(1), l(2), ll(2), l(3), ll(3), l(4), ll(4),
                     &mut number, &mut place,
+                );
+                counts = [0, 0];
+            }
+            Call::DomesticDemand => {
+                tawqeshim_domestic_demand(
+                    n, g(0), gl(0), g(1), gl(1), g(2), gl(2), g(3), gl(3), l(0), ll(0), &mut number, &mut place,
                 );
                 counts = [0, 0];
             }

@@ -259,21 +259,26 @@ fn starts(rng: &mut Rng, n: usize, limit: u64) -> Vec<u64> {
     list
 }
 
-/// The demand with a scheme: nothing added, a unit, a little, much, or all up to the limit; now and then over the limit, or below the
-/// first demand.
-fn second_demand(rng: &mut Rng, before: &[u64]) -> Vec<u64> {
-    let n = before.len();
+/// Amounts with a scheme in them: nothing added, a unit, a little, much, or all up to the limit.
+pub fn raised(rng: &mut Rng, before: &[u64], limit: u64) -> Vec<u64> {
     let mut after = before.to_vec();
-    let at = rng.spot(n);
-    let room = |amount: u64| DEMAND.saturating_sub(amount);
+    let at = rng.spot(after.len());
+    let room = |amount: u64| limit.saturating_sub(amount);
     match rng.below(8) {
         0 => {}
-        1 => after[at] = after[at].saturating_add(1),
+        1 => after[at] += room(after[at]).min(1),
         2 => after[at] += rng.magnitude(room(after[at])),
-        3 | 4 => after.iter_mut().for_each(|amount| *amount = amount.saturating_add(rng.upto(20))),
+        3 | 4 => after.iter_mut().for_each(|amount| *amount += rng.upto(20).min(room(*amount))),
         5 => after.iter_mut().for_each(|amount| *amount += room(*amount)),
         _ => after.iter_mut().for_each(|amount| *amount += rng.magnitude(room(*amount))),
     }
+    after
+}
+
+/// The demand with a scheme; now and then over the limit, or below the first demand.
+fn second_demand(rng: &mut Rng, before: &[u64]) -> Vec<u64> {
+    let n = before.len();
+    let mut after = raised(rng, before, DEMAND);
     let at = rng.spot(n);
     match rng.below(14) {
         0 => after[at] = DEMAND + 1,
@@ -805,6 +810,87 @@ fn coefficients_case(rng: &mut Rng) -> Case {
         }
     }
     Case::new(Call::Coefficients, n, given)
+}
+
+// ---------------------------------------------------------------------------------------------
+// Final demands
+// ---------------------------------------------------------------------------------------------
+
+/// What a demand for domestic goods is worked out from: m, F, E, G, in the interface's order.
+type Inputs = [Vec<u64>; 4];
+
+/// The limits of their cells.
+const INPUT_LIMITS: [u64; 4] = [ONE, AMOUNT, AMOUNT, AMOUNT];
+
+/// Those of a table, if its sheets are accepted.
+fn inputs_of_table(rng: &mut Rng, n: usize) -> Option<Inputs> {
+    let table = table(rng, n);
+    let sheets = by_reference(&Case::new(Call::Coefficients, n, table.clone()));
+    let [final_demand, exports, adjustment] = [FINAL, EXPORTS, ADJUSTMENT].map(|slice| table[slice].clone());
+    if sheets.number == 0 { Some([sheets.cells[2].clone(), final_demand, exports, adjustment]) } else { None }
+}
+
+/// Any that are accepted: cells at 0, at the limit, near one of these, or between.
+fn free_inputs(rng: &mut Rng, n: usize) -> Inputs {
+    let mut inputs: Inputs = INPUT_LIMITS.map(|limit| match rng.below(8) {
+        0 => vec![0; n],
+        1 => vec![limit; n],
+        2 => (0..n).map(|_| rng.of(&[0, 1, limit - 1, limit])).collect(),
+        3 => (0..n).map(|_| limit - rng.magnitude(limit)).collect(),
+        // Whole tenths of the limit: nothing is rounded where both m and F have them.
+        4 => (0..n).map(|_| limit / 10 * rng.upto(10)).collect(),
+        5 => (0..n).map(|_| rng.upto(40)).collect(),
+        6 => (0..n).map(|_| rng.magnitude(limit)).collect(),
+        _ => (0..n).map(|_| rng.upto(limit)).collect(),
+    });
+    // E and G together within their limit, or at it.
+    let [_, _, exports, adjustment] = &mut inputs;
+    let full = rng.of(&[0, 0, 1, 4]);
+    for (e, g) in exports.iter_mut().zip(adjustment) {
+        let (kept, other) = if rng.chance(1, 2) { (e, g) } else { (g, e) };
+        let rest = AMOUNT - *kept;
+        *other = if rng.chance(full, 4) { rest } else { rest.min(*other) };
+    }
+    inputs
+}
+
+/// Breaks one thing in them.
+fn spoil_inputs(rng: &mut Rng, n: usize, inputs: &mut Inputs) {
+    let k = rng.spot(n);
+    if rng.chance(1, 2) {
+        // A cell at its limit, over it, or far over it; a share as large as an amount.
+        let slice = rng.below(4);
+        let limit = INPUT_LIMITS[slice];
+        inputs[slice][k] = match rng.below(5) {
+            0 => limit,
+            1 | 2 => limit + 1,
+            3 => limit + 1 + rng.magnitude(AMOUNT - 1),
+            _ => strange_cell(rng),
+        };
+    } else {
+        // E and G over their limit, in two sectors, to see the first taken.
+        let [_, _, exports, adjustment] = inputs;
+        for i in [k, rng.below(n)] {
+            let over = if rng.chance(1, 2) { 1 } else { 1 + rng.magnitude(AMOUNT - 1) };
+            exports[i] = rng.between(over, AMOUNT);
+            adjustment[i] = AMOUNT + over - exports[i];
+        }
+    }
+}
+
+fn demand_case(rng: &mut Rng) -> Case {
+    let n = size(rng);
+    let of_table = if rng.chance(2, 3) { inputs_of_table(rng, n) } else { None };
+    let mut inputs = of_table.unwrap_or_else(|| free_inputs(rng, n));
+    if rng.chance(1, 2) {
+        inputs[1] = raised(rng, &inputs[1], AMOUNT);
+    }
+    if rng.chance(1, 3) {
+        for _ in 0..rng.between(1, 2) {
+            spoil_inputs(rng, n, &mut inputs);
+        }
+    }
+    Case::new(Call::DomesticDemand, n, inputs.to_vec())
 }
 
 // ---------------------------------------------------------------------------------------------
@@ -1399,7 +1485,7 @@ pub fn case(seed: u64, index: u64) -> Case {
     if index % 2_000 == 0 {
         return slow_case(rng);
     }
-    let mut case = match rng.below(150) {
+    let mut case = match rng.below(160) {
         0..=23 => coefficients_case(rng),
         24..=43 => rounds_case(rng, Call::Production),
         44..=55 => rounds_case(rng, Call::Price),
@@ -1411,6 +1497,7 @@ pub fn case(seed: u64, index: u64) -> Case {
         100..=109 => write_case(rng),
         110..=125 => rounds_case(rng, Call::Impact),
         126..=141 => aggregate_case(rng),
+        142..=151 => demand_case(rng),
         _ => page_case(rng),
     };
     let by_size = !matches!(case.call, Call::ReadTable | Call::Page);

@@ -304,6 +304,29 @@ pub fn coefficients(
     Ok(Given { cells: vec![a, v, m, d, f], counts: [0, 0] })
 }
 
+/// The demand for domestic goods of any final demand, from m, F, E and G. Asks 1, 2, 3, 16. Lent: demand.
+pub fn domestic_demand(
+    n: usize,
+    m: &[u64],
+    final_demand: &[u64],
+    exports: &[u64],
+    adjustment: &[u64],
+    lent: &[usize],
+) -> Result<Given, Refusal> {
+    question_1(n)?;
+    question_2(&[(m.len(), n), (final_demand.len(), n), (exports.len(), n), (adjustment.len(), n), (lent[0], n)])?;
+    question_3(&[(m, ONE), (final_demand, AMOUNT_LIMIT), (exports, AMOUNT_LIMIT), (adjustment, AMOUNT_LIMIT)])?;
+    question_16(exports, adjustment)?;
+    let mut demand = vec![0; n];
+    for i in 0..n {
+        // What is imported is taken off F: rounded up, since what is left is rounded down. E and G are whole.
+        let imported = (u128::from(m[i]) * u128::from(final_demand[i])).div_ceil(ONE);
+        let used = u128::from(final_demand[i]) + u128::from(exports[i]) + u128::from(adjustment[i]);
+        demand[i] = cell(used - imported);
+    }
+    Ok(Given { cells: vec![demand], counts: [0, 0] })
+}
+
 // ---------------------------------------------------------------------------------------------
 // "Merging sectors" (document 02, ticket 7)
 // ---------------------------------------------------------------------------------------------

@@ -1,6 +1,6 @@
 //! The paper's worked cases P1 to P12, its slips and its printed sheet, with the paper's numbers; files
-//! that name one cell or all; the worked table written as a file; tables with an adjustment; what schemes
-//! add; shares to the nearest millionth; and merged tables.
+//! that name one cell or all; the worked table written as a file; tables with an adjustment; demands of
+//! other final demands; what schemes add; shares to the nearest millionth; and merged tables.
 
 use crate::calls::{Call, Case, Outcome, GROUPS, PAGE_BYTES};
 use crate::reference::{self, Refusal, AMOUNT_LIMIT, FILE_BYTES, ONE, PRICE_BUDGET, PRODUCTION_BUDGET};
@@ -97,8 +97,9 @@ pub fn cases() -> Vec<(&'static str, Case, Outcome)> {
     }
     cases.push(("P10", rounds(forward, &D, &[0, 0], 1), accepted(1, &[&[0, 0], &[0, 0]])));
     for n in [0, 41] {
-        let calls = [Call::Coefficients, Call::Aggregate, forward, Call::Impact, prices, back, Call::Induced, Call::Inverse];
-        for call in calls {
+        let tables = [Call::Coefficients, Call::DomesticDemand, Call::Aggregate];
+        let others = [forward, Call::Impact, prices, back, Call::Induced, Call::Inverse];
+        for call in tables.into_iter().chain(others) {
             let given = call.given_lengths(n).iter().map(|length| vec![0; *length]).collect();
             let case = Case { budget: 1, ..Case::new(call, n, given) };
             let one = refused(&case, 1, 0);
@@ -129,6 +130,7 @@ pub fn cases() -> Vec<(&'static str, Case, Outcome)> {
     cases.extend(named_cases());
     cases.extend(writer_cases());
     cases.extend(adjustment_cases());
+    cases.extend(demand_cases());
     cases.extend(impact_cases());
     cases.extend(nearest_cases());
     cases.extend(nearest_pages());
@@ -300,6 +302,91 @@ fn adjustment_cases() -> Vec<(&'static str, Case, Outcome)> {
     ] {
         let printed = Outcome::in_bytes(PAGE_BYTES, Ok(page.as_bytes().to_vec()));
         cases.push((name, Case::of_file(Call::Page, file), printed));
+    }
+    cases
+}
+
+// The worked table's import shares, and a final demand with a scheme of 100 in it.
+const SHARES: [u64; 2] = [250_000, 200_000];
+const SCHEME: [u64; 2] = [600, 900];
+
+/// m, F, E and G.
+fn demand(m: &[u64], final_demand: &[u64], exports: &[u64], adjustment: &[u64]) -> Case {
+    let given = [m, final_demand, exports, adjustment].map(|slice| slice.to_vec());
+    Case::new(Call::DomesticDemand, m.len(), given.to_vec())
+}
+
+/// "Demand for domestic goods", of tables and of other final demands, by hand.
+fn demand_cases() -> Vec<(&'static str, Case, Outcome)> {
+    let mut cases = Vec::new();
+    let none = [0, 0];
+    let of = |final_demand: [u64; 2]| demand(&SHARES, &final_demand, &EXPORTS, &none);
+    for (name, case, f) in [
+        ("the worked demand", of(FINAL_DEMAND), F),
+        ("the demand with a scheme", of(SCHEME), [700, 1280]),
+        // 375.75 and 720.8; 376.5 and 721.6.
+        ("a unit more", of([501, 901]), [625, 1280]),
+        ("two units more", of([502, 902]), [626, 1281]),
+        ("no final demand", of(none), EXPORTS),
+        ("the demand with an adjustment", demand(&[300_000, 250_000], &FINAL_DEMAND, &EXPORTS, &[50, 90]), [650, 1325]),
+        ("nothing imported", demand(&none, &FINAL_DEMAND, &EXPORTS, &[50, 90]), [800, 1550]),
+        ("all imported", demand(&[1_000_000; 2], &FINAL_DEMAND, &EXPORTS, &[50, 90]), [300, 650]),
+        ("no amounts", demand(&SHARES, &none, &none, &none), none),
+        ("the most", demand(&none, &[LIMIT; 2], &[LIMIT, 1], &[0, LIMIT - 1]), [2 * LIMIT; 2]),
+        ("the least and the largest part", demand(&[1, 999_999], &[LIMIT; 2], &none, &none), [999_999_000, 1_000]),
+        ("a unit, of which a little is imported", demand(&[1, 0], &[1, 1], &none, &none), [0, 1]),
+        ("a millionth kept", demand(&[999_999; 2], &[999_999, 1_000_000], &none, &none), [0, 1]),
+        ("rounded down", demand(&[315, 315], &[49_000, 0], &[1_015, 1_015], &none), [49_999, 1_015]),
+    ] {
+        cases.push((name, case, accepted(0, &[&f])));
+    }
+
+    let mut no = |name, case: Case, number, place| {
+        let outcome = refused(&case, number, place);
+        cases.push((name, case, outcome));
+    };
+    // Question 3 reads m, F, E, G: a cell over its limit, alone and with every one after it.
+    for place in 0..8 {
+        let mut over = of(SCHEME);
+        over.given[place / 2][place % 2] = if place < 2 { 1_000_001 } else { LIMIT + 1 };
+        no("a cell over", over.clone(), 3, place);
+        (place..8).for_each(|later| over.given[later / 2][later % 2] = u64::MAX);
+        no("every cell from here over", over, 3, place);
+    }
+    // Question 16 in the first sector, one between and the last, where the others are within; and in several.
+    for k in 0..3 {
+        let (mut exports, mut adjustment) = ([5, 6, LIMIT], [LIMIT - 5, 1, 0]);
+        for (e, g) in [(LIMIT, 1), (1, LIMIT), (LIMIT, LIMIT), (LIMIT / 2, LIMIT / 2 + 1)] {
+            (exports[k], adjustment[k]) = (e, g);
+            let case = demand(&[1_000_000; 3], &[LIMIT; 3], &exports, &adjustment);
+            no("E and G of a demand over", case.clone(), 16, k);
+            // It is asked after 3.
+            for (slice, at) in [(0, 2), (1, 2), (2, k), (3, 0)] {
+                let mut over = case.clone();
+                over.given[slice][at] = LIMIT + 1;
+                no("E and G over, a cell over", over, 3, 3 * slice + at);
+            }
+        }
+        exports[k..].fill(LIMIT);
+        adjustment[k..].fill(1);
+        no("E and G over from here", demand(&[0; 3], &[0; 3], &exports, &adjustment), 16, k);
+    }
+    // Each slice with other lengths, the lent one too, also where cells are over; and with another n.
+    for slice in 0..5 {
+        for length in [0, 1, 3, 4] {
+            for mut case in [of(SCHEME), demand(&[u64::MAX; 2], &[u64::MAX; 2], &[LIMIT; 2], &[LIMIT; 2])] {
+                if slice < 4 {
+                    case.given[slice].resize(length, 0);
+                } else {
+                    case.lent[0] = length;
+                }
+                no("a demand with other lengths", case.clone(), 2, 0);
+                no("1 before 2, of a demand", Case { n: 41, ..case }, 1, 0);
+            }
+        }
+    }
+    for n in [0, 41, usize::MAX] {
+        no("1 before 3, of a demand", Case { n, ..demand(&[u64::MAX; 2], &[0; 2], &[0; 2], &[0; 2]) }, 1, 0);
     }
     cases
 }
@@ -775,6 +862,8 @@ pub fn slips() -> Vec<(&'static str, bool)> {
     slips.push(("the adjustment left out", inside + EXPORTS[0] == 600 && f == Ok(650)));
     slips.push(("103 bytes", adjusted_file().len() == 103));
 
+    slips.extend(demand_slips());
+
     // The scheme settled by itself, and the counts of both demands added.
     let more = [635, 1280];
     let given = reference::impact(2, &D, &F, &more, PRODUCTION_BUDGET, &[2, 2]);
@@ -790,6 +879,23 @@ pub fn slips() -> Vec<(&'static str, bool)> {
     slips.push(("the printed sheet", reference::page(&file()) == PRINTED.as_bytes()));
     slips.push(("the empty page", reference::page(&[]) == b"refused 15 0\n"));
     slips
+}
+
+/// A scheme that is not cut, that is cut and rounded by itself, with exports cut too, or rounded up.
+fn demand_slips() -> Vec<(&'static str, bool)> {
+    let one = ONE as u64;
+    let first = |final_demand: u64| {
+        let given = reference::domestic_demand(2, &SHARES, &[final_demand, 900], &EXPORTS, &[0, 0], &[2]);
+        given.map_or(0, |given| given.cells[0][0])
+    };
+    let inside = |amount: u64| 750_000 * amount / one;
+    let (before, with) = (first(501), first(502));
+    vec![
+        ("a scheme that is not cut", F[0] + 100 == 725 && first(600) == 700),
+        ("a scheme rounded by itself", before + inside(1) == 625 && (before, with) == (625, 626)),
+        ("a scheme with exports cut", inside(600 + EXPORTS[0]) == 637 && first(600) == 700),
+        ("a final demand rounded up", (750_000 * 501_u64).div_ceil(one) + EXPORTS[0] == 626 && before == 625),
+    ]
 }
 
 /// Shares in another rounding, and d, f or one less m to the nearest too.
