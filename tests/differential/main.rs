@@ -1,14 +1,15 @@
 //! Differential test: the library, through its C interface, against the paper.
 //!
 //! `differential [cases]` first runs the paper's worked cases, then as many pseudo-random cases
-//! (2,000,000 unless told otherwise), each accepted impact and each merged table among them against what
-//! is promised of it and each refusal for too few rounds against its budget, then settled amounts against
-//! exact balances, files that are written and read, and the slowest sheets. The seed is fixed and a case
-//! depends on its index alone, so every run is the same.
+//! (2,000,000 unless told otherwise), each accepted impact, each merged table and each demand for domestic
+//! goods among them against what is promised of it and each refusal for too few rounds against its budget,
+//! then settled amounts against exact balances, files that are written and read, and the slowest sheets.
+//! The seed is fixed and a case depends on its index alone, so every run is the same.
 
 mod archives;
 mod budgets;
 mod calls;
+mod demands;
 mod exact;
 mod generate;
 mod impacts;
@@ -94,6 +95,7 @@ fn checked(case: &Case, paper: &Outcome) -> Result<Outcome, &'static str> {
     budgets::check(case, paper)?;
     let library = by_library(case)?;
     budgets::check(case, &library)?;
+    demands::check(case, &library)?;
     impacts::check(case, &library)?;
     merging::check(case, &library)?;
     Ok(library)
