@@ -1,7 +1,7 @@
 /*
- * Tests of include/tawqeshim.h: its constants against what the library accepts and refuses, how shares are rounded, how sectors are merged,
- * the questions' texts, the version, and the functions that go by names. tests/run compiles it as C99 and as C++, with every warning an
- * error.
+ * Tests of include/tawqeshim.h: its constants against what the library accepts and refuses, how shares are rounded, what a final demand
+ * demands of domestic goods, how sectors are merged, the questions' texts, the version, and the functions that go by names. tests/run
+ * compiles it as C99 and as C++, with every warning an error.
  */
 #include "tawqeshim.h"
 
@@ -174,6 +174,74 @@ static void limits(void) {
     answers(TAWQESHIM_REFUSED_AMOUNT, 1, "a share over its limit");
     induce(0, TAWQESHIM_AMOUNT_LIMIT + 1);
     answers(TAWQESHIM_REFUSED_AMOUNT, 3, "an amount over its limit");
+}
+
+/* The demand of two sectors for domestic goods, from m, final demand, exports and adjustment, into so many cells. */
+static uint64_t demanded[4];
+static void demand(uint64_t inputs[4][2], size_t lent) {
+    memset(demanded, 7, sizeof demanded);
+    tawqeshim_domestic_demand(2, inputs[0], 2, inputs[1], 2, inputs[2], 2, inputs[3], 2, demanded, lent, &number, &place);
+}
+
+/* These two cells, and nothing else. */
+static int demand_is(uint64_t first, uint64_t second) {
+    return demanded[0] == first && demanded[1] == second && demanded[2] == demanded[3] && demanded[2] != 0;
+}
+
+/* Everything lent is 0, and nothing else. */
+static int nothing_demanded(size_t lent) {
+    for (size_t i = 0; i < 4; i++)
+        if ((demanded[i] == 0) != (i < lent))
+            return 0;
+    return 1;
+}
+
+static void demands(void) {
+    const uint64_t limit = TAWQESHIM_AMOUNT_LIMIT;
+    uint64_t worked[4][2] = {{250000, 200000}, {500, 900}, {250, 560}, {0, 0}};
+    demand(worked, 2);
+    answers(TAWQESHIM_ACCEPTED, 0, "the worked final demand");
+    expect(demand_is(625, 1280), "the worked demand");
+    worked[1][0] = 600;
+    demand(worked, 2);
+    answers(TAWQESHIM_ACCEPTED, 0, "a final demand with a scheme");
+    expect(demand_is(700, 1280), "the demand with a scheme");
+    worked[1][0] = 501;
+    worked[3][1] = 90;
+    demand(worked, 2);
+    expect(demand_is(625, 1370), "a demand is not rounded down, or the adjustment is not whole in it");
+
+    uint64_t most[4][2] = {{0, TAWQESHIM_SHARE_LIMIT}, {limit, limit}, {limit, 1}, {0, limit - 1}};
+    demand(most, 2);
+    answers(TAWQESHIM_ACCEPTED, 0, "shares and amounts of a demand at their limits");
+    expect(demand_is(TAWQESHIM_DEMAND_LIMIT, limit), "the largest demand, and one of a sector that imports all it needs");
+    produce(TAWQESHIM_COLUMN_LIMIT, demanded[0]);
+    answers(TAWQESHIM_ACCEPTED, 0, "production from the largest demand");
+
+    for (size_t k = 0; k < 8; k++) {
+        uint64_t over[4][2] = {{250000, 200000}, {500, 900}, {250, 560}, {0, 0}};
+        over[k / 2][k % 2] = k < 2 ? TAWQESHIM_SHARE_LIMIT + 1 : limit + 1;
+        demand(over, 2);
+        answers(TAWQESHIM_REFUSED_AMOUNT, k, "a share or an amount of a demand over its limit");
+        expect(nothing_demanded(2), "a demand that is refused with 3 is not 0");
+    }
+    most[3][1] = limit;
+    demand(most, 2);
+    answers(TAWQESHIM_REFUSED_EXPORTS, 1, "exports and adjustment of a demand over their limit");
+    expect(nothing_demanded(2), "a demand that is refused with 16 is not 0");
+    most[3][0] = 1;
+    demand(most, 2);
+    answers(TAWQESHIM_REFUSED_EXPORTS, 0, "exports and adjustment over their limit in both sectors");
+    most[1][1] = limit + 1;
+    demand(most, 2);
+    answers(TAWQESHIM_REFUSED_AMOUNT, 3, "a final demand over its limit, and exports and adjustment over theirs");
+    for (size_t lent = 0; lent <= 4; lent++) {
+        if (lent == 2)
+            continue;
+        demand(worked, lent);
+        answers(TAWQESHIM_REFUSED_LENGTH, 0, "a demand into another length");
+        expect(nothing_demanded(lent), "a demand that is refused with 2 is not 0");
+    }
 }
 
 /* Two sectors, of whose goods this is made and used, merged into g groups. So many cells are lent for x, and for the rest. */
@@ -372,8 +440,22 @@ static void by_names(void) {
     answers(TAWQESHIM_ACCEPTED, 0, "the worked production");
     expect(value[0] == 599 && value[1] == 999 && imports[0] == 249 && imports[1] == 359, "the worked table's induced amounts");
 
+    const uint64_t with_scheme[2] = {600, 900}, over[2] = {600, TAWQESHIM_AMOUNT_LIMIT + 1};
+    uint64_t after[2], out[2], work[2];
+    tawqeshim_table_demand(2, &table, &sheets, columns_of[0], after, &number, &place);
+    answers(TAWQESHIM_ACCEPTED, 0, "the worked table's own final demand");
+    expect(after[0] == f[0] && after[1] == f[1], "the demand of the worked table's own final demand");
+    tawqeshim_table_demand(2, &table, &sheets, with_scheme, after, &number, &place);
+    answers(TAWQESHIM_ACCEPTED, 0, "the worked table's final demand with a scheme");
+    expect(after[0] == 700 && after[1] == 1280, "the worked table's demand with a scheme");
+    tawqeshim_impact(2, d, 4, f, 2, after, 2, TAWQESHIM_PRODUCTION_BUDGET, out, 2, work, 2, &number, &place, &rounds);
+    answers(TAWQESHIM_ACCEPTED, 0, "what a final demand with a scheme adds");
+    expect(out[0] == 86 && out[1] == 27, "what a final demand with a scheme adds to the worked production");
+    tawqeshim_table_demand(2, &table, &sheets, over, after, &number, &place);
+    answers(TAWQESHIM_REFUSED_AMOUNT, 3, "a final demand over its limit");
+    expect(after[0] == 0 && after[1] == 0, "the demand of a final demand over its limit is not 0");
+
     const uint64_t more[2] = {f[0] + 10, f[1]}, less[2] = {f[0] + 10, f[1] - 1};
-    uint64_t out[2], work[2];
     tawqeshim_impact(2, d, 4, f, 2, more, 2, 10, out, 2, work, 2, &number, &place, &rounds);
     answers(TAWQESHIM_ACCEPTED, 0, "a scheme for the worked table");
     expect(out[0] == 12 && out[1] == 4 && rounds == 10, "what a scheme adds to the worked production");
@@ -400,6 +482,9 @@ static void by_names(void) {
     tawqeshim_table_sheets(2, &table, &sheets, &number, &place);
     answers(TAWQESHIM_ACCEPTED, 0, "the table with an adjustment");
     expect(m[0] == 300000 && m[1] == 250000 && f[0] == 650 && f[1] == 1325, "the sheets of the table with an adjustment");
+    tawqeshim_table_demand(2, &table, &sheets, with_scheme, after, &number, &place);
+    answers(TAWQESHIM_ACCEPTED, 0, "a scheme for the table with an adjustment");
+    expect(after[0] == 720 && after[1] == 1325, "the demand of the table with an adjustment and a scheme");
     tawqeshim_table_file(2, &table, rises, archive, &number, &place, &count);
     expect(count == 103 && memcmp(archive + 90, end, 13) == 0, "the file of the table with an adjustment");
 
@@ -428,11 +513,12 @@ int main(void) {
     questions();
     limits();
     nearest();
+    demands();
     merging();
     sizes();
     files();
     by_names();
     if (failures == 0)
-        printf("header: constants, questions, rounding, merging and names as the library has them\n");
+        printf("header: constants, questions, rounding, demands, merging and names as the library has them\n");
     return failures != 0;
 }
