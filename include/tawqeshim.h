@@ -184,9 +184,10 @@ void tawqeshim_coefficients(
  * Gives the demand in out, n cells: what is not imported of final demand, (TAWQESHIM_ONE - m) * final_demand / TAWQESHIM_ONE rounded
  * down, plus exports and adjustment whole. With what tawqeshim_coefficients took and gave of a table it is that table's f.
  *
- * tawqeshim_production and tawqeshim_impact pass it at question 8. Of a final demand that is nowhere below another the demand is nowhere
- * below the other's, so tawqeshim_impact does not refuse the two with 17. What is added to it is at most what was added to final demand,
- * and all of it in a sector that imports nothing.
+ * It passes question 8 of tawqeshim_production and of tawqeshim_impact. With the same m, exports and adjustment, a final demand that is
+ * nowhere below another has a demand that is nowhere below the other's, so tawqeshim_impact does not refuse the two with 17. What is
+ * added to a sector's demand is then at most what was added to its final demand, and all of it where m is 0: it is what is not imported
+ * of the addition, rounded down, or one more.
  *
  * A refusal sets every cell of out to 0, also where it has another length.
  */
@@ -430,8 +431,8 @@ void tawqeshim_page(
     uint8_t *number, size_t *place, size_t *length);
 
 /*
- * A table, its sheets and what it is merged into by names, for tawqeshim_coefficients, tawqeshim_aggregate, tawqeshim_write_table and
- * tawqeshim_induced without a word about lengths or order. Each pointer is to n cells, or where it says so to n * n; of what is merged to
+ * A table, its sheets and what it is merged into by names, for tawqeshim_coefficients, tawqeshim_domestic_demand, tawqeshim_aggregate,
+ * tawqeshim_write_table and tawqeshim_induced without a word about lengths or order. Each pointer is to n cells, or where it says so to n * n; of what is merged to
  * g, or to g * g. These lengths are handed over as they are, so the arrays must have them; those that tawqeshim_read_table filled are
  * longer, and will do.
  * A table without adjustment has n zeros there: an initializer of five columns leaves NULL.
@@ -465,8 +466,8 @@ static inline void tawqeshim_table_sheets(
         number, place);
 }
 
-/* tawqeshim_domestic_demand: the demand of another final demand than the table's, with the table's exports and adjustment and the
-   import_shares of its sheets, which are only read. */
+/* tawqeshim_domestic_demand: the demand of any final demand, as the table's with a scheme in it, with the table's exports and adjustment
+   and the import_shares of its sheets, which are only read. */
 static inline void tawqeshim_table_demand(
     size_t n, const struct tawqeshim_table *table, const struct tawqeshim_sheets *sheets, const uint64_t *final_demand,
     uint64_t *out, uint8_t *number, size_t *place) {

@@ -15,23 +15,7 @@ const M: [u64; 2] = [250000, 200000];
 
 const E: [u64; 2] = [250, 560];
 
-// The demand of a final demand, on two output cells.
-fn demand_lent(
-    name: &[u8],
-    n: usize,
-    m: &[u64],
-    final_demand: &[u64],
-    exports: &[u64],
-    adjustment: &[u64],
-) {
-    let mut out = [7u64; 2];
-    show_word(name);
-    show_answer(domestic_demand(n, m, final_demand, exports, adjustment, &mut out));
-    show_first(&out);
-    show_end();
-}
-
-// The same of two sectors.
+// The demand of a final demand, of two sectors.
 fn demand(
     name: &[u8],
     m: [u64; 2],
@@ -39,10 +23,23 @@ fn demand(
     exports: [u64; 2],
     adjustment: [u64; 2],
 ) {
-    demand_lent(name, 2, &m, &final_demand, &exports, &adjustment);
+    let mut out = [7u64; 2];
+    show_word(name);
+    show_answer(domestic_demand(2, &m, &final_demand, &exports, &adjustment, &mut out));
+    show_first(&out);
+    show_end();
 }
 
-// The demand of two sectors, on three output cells.
+// The worked table's demand, with another n or other import shares.
+fn demand_lent(name: &[u8], n: usize, m: &[u64]) {
+    let mut out = [7u64; 2];
+    show_word(name);
+    show_answer(domestic_demand(n, m, &[500, 900], &E, &[0, 0], &mut out));
+    show_first(&out);
+    show_end();
+}
+
+// The same on three output cells.
 fn demand_long(name: &[u8]) {
     let mut out = [7u64; 3];
     show_word(name);
@@ -98,13 +95,11 @@ fn refusals() {
 }
 
 fn shapes() {
-    demand_lent(b"shares long", 2, &[0, 0, 0], &[500, 900], &E, &[0, 0]);
-    demand_lent(b"demand short", 2, &M, &[500], &E, &[0, 0]);
-    demand_lent(b"exports short", 2, &M, &[500, 900], &[250], &[0, 0]);
-    demand_lent(b"item long", 2, &M, &[500, 900], &E, &[0, 0, 0]);
+    demand_lent(b"shares long", 2, &[0, 0, 0]);
+    demand_lent(b"shares short", 2, &[0]);
+    demand_lent(b"no sector", 0, &M);
+    demand_lent(b"forty-one sectors", 41, &M);
     demand_long(b"output long");
-    demand_lent(b"no sector", 0, &M, &[500, 900], &E, &[0, 0]);
-    demand_lent(b"forty-one sectors", 41, &M, &[500, 900], &E, &[0, 0]);
 }
 
 fn main() {
