@@ -353,6 +353,8 @@ impactRows =
     -- 10 more for sector 0, at the least budget; one round less is enough for the first demand alone
     impactOf 2 d f (635 ∷ 1280 ∷ []) 10 ⊳ (accepts (10 ∷ []) leaving ((12 ∷ 4 ∷ []) ∷ []))
     ∷ impactOf 2 d f (635 ∷ 1280 ∷ []) 9 ⊳ (refuses 1 9 0 leaving noRise)
+    -- 100 more of final demand for sector 0, of which 75 are for domestic goods
+    ∷ impactOf 2 d f (700 ∷ 1280 ∷ []) productionBudget ⊳ (accepts (9 ∷ []) leaving ((86 ∷ 27 ∷ []) ∷ []))
     -- equal demands are accepted, and nothing rises; a budget of 0 is never enough
     ∷ impactOf 2 d f f 4294967295 ⊳ (accepts (9 ∷ []) leaving noRise)
     ∷ impactOf 2 d (0 ∷ 0 ∷ []) (0 ∷ 0 ∷ []) 0 ⊳ (refuses 1 9 0 leaving noRise)
