@@ -8,10 +8,10 @@ use borrow.Author.Tests.{le-leb, leb-true}
 use lib.Dec.{leb, lit<}
 use lib.ListN.{length}
 use Rattle.model.specs.Numbers.{one, cell, at}
-use Rattle.model.specs.Table.{Table, tableBy, adjustedExports, domesticDemand}
+use Rattle.model.specs.Table.{tableBy, adjustedExports, domesticDemand}
 use Rattle.model.specs.Rounds.{settling, impactRounds}
-use Rattle.model.specs.Checks.{Report, Check, accepts, verdict, output, size, lengths, amountLimit, demandLimit, demandAmounts, exportsWithin, demandChecks, bothSettle, productionBudget}
-use Rattle.model.specs.Calls.{coefficientsReport, importCoefficients, tableDemand, domesticDemandReport, matrixChecks, impactReport}
+use Rattle.model.specs.Checks.{Report, accepts, verdict, output, size, lengths, amountLimit, demandLimit, demandAmounts, exportsWithin, demandChecks, bothSettle, productionBudget}
+use Rattle.model.specs.Calls.{coefficientsReport, importCoefficients, domesticDemandReport, matrixChecks, impactReport}
 use Rattle.model.specs.Promises.{AcceptedMatrix, NowhereBelow, added, OrderedInside}
 use Rattle.model.specs.Contracts.{Demanded}
 use Rattle.theory.specs.Slices.{Each}

@@ -1,7 +1,7 @@
 -- Laws of the demand for domestic goods, cell by cell. Assumes nothing.
 use mathlib.Core.Path.{_≡_, ap, subst, _∙_}
 use mathlib.Core.List.{List}
-use Prim.Native.Nat.{ℕ, _+_, _*_, _-_, _/_, _≤_, _<_}
+use Prim.Native.Nat.{ℕ, _+_, _-_, _≤_, _<_}
 use native.Mathlib.Nat.{sub-le, add-sub-of-le}
 use native.Mathlib.Omega.{arith}
 use lib.ListN.{length}

@@ -3,12 +3,12 @@ use mathlib.Core.Path.{_≡_, refl, ap, ap₂, subst, _∙_}
 use mathlib.Core.Bool.{Bool, true, false}
 use mathlib.Core.List.{List, [], _∷_, _++_, map}
 use Prim.Native.Nat.{ℕ, zero, suc, _+_, _*_, _-_, _/_, _%_, _≤_, _<_, zero-le, suc-le-suc}
-use native.Mathlib.Nat.{sub-le, not-suc-le-zero, le-of-suc-le-suc, zero-lt-suc}
+use native.Mathlib.Nat.{not-suc-le-zero, le-of-suc-le-suc, zero-lt-suc}
 use native.Mathlib.Omega.{arith}
 use borrow.Author.Tests.{leb-true, eqb-true, ltb-true, ltb-false, le-leb, eq-eqb}
 use lib.Dec.{ltb}
 use lib.ListN.{length, getD, List·getD-eq-default}
-use Rattle.model.specs.Numbers.{one, sum, tabulate, cell, at, matrix, transposed}
+use Rattle.model.specs.Numbers.{one, sum, cell, at, matrix, transposed}
 use Rattle.model.specs.Table.{Table, finalDemand, exports, imports, valueAdded, production, adjustment, adjustedExports, flow, need, portion, inputCoefficient, valueAddedCoefficient, importCoefficient, domesticCoefficient}
 use Rattle.model.specs.Checks.{size, lengths, bounded, countedOn, amountLimit, demandLimit, tableAmounts, balanceChecks}
 use Rattle.model.specs.Calls.{tableChecks, inputCoefficients, valueAddedCoefficients, importCoefficients, domesticCoefficients, tableDemand}

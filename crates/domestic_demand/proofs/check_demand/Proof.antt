@@ -6,7 +6,7 @@ use lib.ListN.{length}
 use Rattle.model.specs.Checks.{Check, report, verdict, size, lengths, demandAmounts, exportsWithin}
 use Rattle.model.specs.Calls.{domesticDemandReport}
 use Rattle.theory.proofs.Verdicts.{answered-pass, answered-on, answered-end}
-use Rattle.theory_tables.proofs.Demanded.{DemandSizes, DemandAmounts, demand-sizes, demand-amounts}
+use Rattle.theory_tables.proofs.Demanded.{demand-sizes, demand-amounts}
 use Rattle.domestic_demand.proofs.check_demand.Statement.{statement}
 use Rattle.domestic_demand.proofs.check_demand.Tie as tie
 
