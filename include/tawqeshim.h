@@ -432,9 +432,9 @@ void tawqeshim_page(
 
 /*
  * A table, its sheets and what it is merged into by names, for tawqeshim_coefficients, tawqeshim_domestic_demand, tawqeshim_aggregate,
- * tawqeshim_write_table and tawqeshim_induced without a word about lengths or order. Each pointer is to n cells, or where it says so to n * n; of what is merged to
- * g, or to g * g. These lengths are handed over as they are, so the arrays must have them; those that tawqeshim_read_table filled are
- * longer, and will do.
+ * tawqeshim_write_table and tawqeshim_induced without a word about lengths or order. Each pointer is to n cells, or where it says so to
+ * n * n; of what is merged to g, or to g * g. These lengths are handed over as they are, so the arrays must have them; those that
+ * tawqeshim_read_table filled are longer, and will do.
  * A table without adjustment has n zeros there: an initializer of five columns leaves NULL.
  */
 struct tawqeshim_table {

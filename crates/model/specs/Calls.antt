@@ -37,7 +37,8 @@ module _ (t : Table) where
   coefficientsReport matrices lent =
       verdict (tableChecks matrices lent ++ (columnSums (t .sectors) (at (t .sectors) domesticCoefficients) ∷ [])) []
 
--- The demand for domestic goods of a final demand asks 1, 2, 3, 16; its result: `domesticDemand n m F E G`
+-- The demand for domestic goods of a final demand asks 1, 2, 3, 16; its result: `domesticDemand n m F E G`. The papers have no such call: it gives document
+-- 01's f where F is that of no table
 unfoldable pub domesticDemandReport : (n : ℕ) (m F E G : Cells) (lent : List ℕ) → Report
 domesticDemandReport n m F E G lent =
     let columns = length m ∷ length F ∷ length E ∷ length G ∷ lent in

@@ -73,10 +73,10 @@ module _ (n : ℕ) (m F E G lent : List ℕ) where
 
 -- and the demands of two final demands, the second nowhere below the first: within the limit of question 8, and not falling
 module _ (n : ℕ) (m before F E G lent : List ℕ) (g : DemandGiven n m F E G lent) where
-  pub demand-within : (H : List ℕ) → NowhereBelow n H F → (i : ℕ) → i < n → cell (domesticDemand n m H E G) i ≤ demandLimit
+  demand-within : (H : List ℕ) → NowhereBelow n H F → (i : ℕ) → i < n → cell (domesticDemand n m H E G) i ≤ demandLimit
   demand-within H below i h = demand-small n m H E G i h (le-trans (below i h) (g .small .amounts i .0)) (g .abroad i h)
 
-  pub demands-pass : NowhereBelow n before F → AllPass (demandChecks n (domesticDemand n m before E G) (domesticDemand n m F E G))
+  demands-pass : NowhereBelow n before F → AllPass (demandChecks n (domesticDemand n m before E G) (domesticDemand n m F E G))
   demands-pass grows = (
     λ i h. le-leb _ _ (demand-within before grows i (rw (length-demand n m before E G) at h)),
     (
