@@ -1218,12 +1218,12 @@ class Documents(unittest.TestCase):
     def test_the_definitions_that_the_model_names(self):
         seen = 0
         for paragraph in (ROOT / "docs/MODEL.md").read_text().split("\n\n"):
-            source = None
+            file = source = None
             for word in re.findall("`([^` ]+)`", paragraph if paragraph.startswith("Defined: ") else ""):
                 if word.endswith(".antt"):
-                    source = (ROOT / (word if "/" in word else f"crates/model/specs/{word}")).read_text()
+                    file, source = word, (ROOT / (word if "/" in word else f"crates/model/specs/{word}")).read_text()
                 else:
-                    self.assertRegex(source, rf"(?m)^ *(\w+ )*{word}\b", f"{word} of MODEL.md")
+                    self.assertTrue(re.search(rf"(?m)^ *(\w+ )*{word}\b", source), f"MODEL.md: {word} is not defined in {file}")
                     seen += 1
         self.assertGreater(seen, 100)
 
