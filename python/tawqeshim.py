@@ -704,9 +704,9 @@ def domestic_demand(import_shares: "Column", final_demand: "Column", exports: "O
     >>> domestic_demand([250_000, 200_000], [600, 900], [250, 560])
     [700, 1280]
 
-    `production` and `impact` never refuse it with question 8. A final demand that is nowhere below another has a demand that is nowhere
-    below the other's, so `impact` does not refuse the two with 17. What is added is at most what is spent, and all of it where nothing is
-    imported.
+    `production` and `impact` never refuse it with question 8. With the other columns the same, a final demand that is nowhere below
+    another has a demand that is nowhere below the other's, so `impact` does not refuse the two with 17. What is added is at most what is
+    spent, and all of it where the import share is 0.
 
     >>> domestic_demand([250_000, 200_000], [500, 900], [250, 1_000_000_000], [0, 1])
     Traceback (most recent call last):

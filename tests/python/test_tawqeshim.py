@@ -1,6 +1,6 @@
 """Tests of python/tawqeshim.py: refusals, what it takes as cells and what it does not, how shares are rounded, demands for domestic
-goods, what schemes add, the slowest sheets, its library, the worked table from its file to its page, tables written as files, merged tables, its records, help and
-types. Tests of numpy, pandas and mypy are skipped where these are not installed."""
+goods, what schemes add, the slowest sheets, its library, the worked table from its file to its page, tables written as files, merged
+tables, its records, help and types. Tests of numpy, pandas and mypy are skipped where these are not installed."""
 import copy
 import ctypes
 import doctest

@@ -11,8 +11,8 @@ use lib.ListN.{length}
 use Rattle.model.specs.Numbers.{at, transposed}
 use Rattle.model.specs.Table.{Table}
 use Rattle.model.specs.Rounds.{settling, inverseRounds, impactRounds}
-use Rattle.model.specs.Checks.{Report, reportRead, reportTold, Check, amountLimit, balanceChecks, bothSettle, verdict, columnSums, columnsSettle, demandChecks, demandLeft, demandLimit, demandAmounts, exportsWithin, inducedAmounts, lengths, productionTotal, riseLimit, single, size}
-use Rattle.model.specs.Calls.{coefficientsReport, domesticCoefficients, domesticDemandReport, impactReport, impliedReport, inducedReport, inverseReport, matrixChecks, priceReport, productionReport, settlingChecks, tableChecks}
+use Rattle.model.specs.Checks.{Report, reportRead, reportTold, Check, amountLimit, balanceChecks, bothSettle, verdict, columnSums, columnsSettle, demandChecks, demandLeft, demandLimit, inducedAmounts, lengths, productionTotal, riseLimit, single, size}
+use Rattle.model.specs.Calls.{coefficientsReport, domesticCoefficients, domesticDemandChecks, domesticDemandReport, impactReport, impliedReport, inducedReport, inverseReport, matrixChecks, priceReport, productionReport, settlingChecks, tableChecks}
 use Rattle.model.specs.Aggregation.{partitioned, mergedWithin, aggregateChecks, aggregateReport}
 use Rattle.model.specs.Contracts.{Derived, Demanded, Aggregated, Produced, Priced, Compared, Implied, Induced, Inverted, Slices, readingInto, FileRead, FileWritten, tableFrom, PagePrinted}
 use Rattle.model.specs.File.{Reading, answerOf}
@@ -56,9 +56,7 @@ module _ (t : Table) (matrices lent : List ℕ) where
 
 pub demand-number : (n : ℕ) (m F E G lent : List ℕ) → Numbered (domesticDemandReport n m F E G lent)
 unfolding domesticDemandReport
-demand-number n m F E G lent =
-    let columns = length m ∷ length F ∷ length E ∷ length G ∷ lent in
-    numbered (size n ∷ lengths n [] columns ∷ demandAmounts m F E G ++ (exportsWithin n E G ∷ [])) [] refl
+demand-number n m F E G lent = numbered (domesticDemandChecks n m F E G lent) [] refl
 
 module _ (n : ℕ) (d : List ℕ) where
   pub production-number : (f : List ℕ) (budget : ℕ) (lent : List ℕ) → Numbered (productionReport n d f budget lent)

@@ -39,10 +39,12 @@ module _ (t : Table) where
 
 -- The demand for domestic goods of a final demand asks 1, 2, 3, 16; its result: `domesticDemand n m F E G`. The papers have no such call: it gives document
 -- 01's f where F is that of no table
+abbrev pub domesticDemandChecks : (n : ℕ) (m F E G : Cells) (lent : List ℕ) → List Check
+domesticDemandChecks n m F E G lent =
+    size n ∷ lengths n [] (length m ∷ length F ∷ length E ∷ length G ∷ lent) ∷ demandAmounts m F E G ++ (exportsWithin n E G ∷ [])
+
 unfoldable pub domesticDemandReport : (n : ℕ) (m F E G : Cells) (lent : List ℕ) → Report
-domesticDemandReport n m F E G lent =
-    let columns = length m ∷ length F ∷ length E ∷ length G ∷ lent in
-    verdict (size n ∷ lengths n [] columns ∷ demandAmounts m F E G ++ (exportsWithin n E G ∷ [])) []
+domesticDemandReport n m F E G lent = verdict (domesticDemandChecks n m F E G lent) []
 
 module _ (n : ℕ) (d : Cells) where
   -- Every call on a domestic sheet asks 1, 2 and 7 first

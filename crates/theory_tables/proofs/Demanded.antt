@@ -11,7 +11,7 @@ use Rattle.model.specs.Numbers.{one, cell, at}
 use Rattle.model.specs.Table.{tableBy, adjustedExports, domesticDemand}
 use Rattle.model.specs.Rounds.{settling, impactRounds}
 use Rattle.model.specs.Checks.{Report, accepts, verdict, output, size, lengths, amountLimit, demandLimit, demandAmounts, exportsWithin, demandChecks, bothSettle, productionBudget}
-use Rattle.model.specs.Calls.{coefficientsReport, importCoefficients, domesticDemandReport, matrixChecks, impactReport}
+use Rattle.model.specs.Calls.{coefficientsReport, importCoefficients, domesticDemandChecks, domesticDemandReport, matrixChecks, impactReport}
 use Rattle.model.specs.Promises.{AcceptedMatrix, NowhereBelow, added, OrderedInside}
 use Rattle.model.specs.Contracts.{Demanded}
 use Rattle.theory.specs.Slices.{Each}
@@ -61,10 +61,8 @@ module _ (n : ℕ) (m F E G lent : List ℕ) where
   pub accepted-demand : {r : Report} → r ≡ domesticDemandReport n m F E G lent → r .accepted ≡ true → DemandGiven
   unfolding domesticDemandReport
   accepted-demand answer ok =
-      let sixteenth = exportsWithin n E G ∷ [] in
-      let asked = size n ∷ lengths n [] columns ∷ demandAmounts m F E G ++ sixteenth in
-      let p = accepted-all asked [] (sym (ap (λ (q : Report). q .accepted) answer) ∙ ok) in
-      let q = all-pass-parts (demandAmounts m F E G) sixteenth (p .1 .1) in
+      let p = accepted-all (domesticDemandChecks n m F E G lent) [] (sym (ap (λ (q : Report). q .accepted) answer) ∙ ok) in
+      let q = all-pass-parts (demandAmounts m F E G) (exportsWithin n E G ∷ []) (p .1 .1) in
       record {
         sizes = demand-sizes (p .0) (p .1 .0);
         small = demand-amounts (q .0);
@@ -76,11 +74,14 @@ module _ (n : ℕ) (m before F E G lent : List ℕ) (g : DemandGiven n m F E G l
   demand-within : (H : List ℕ) → NowhereBelow n H F → (i : ℕ) → i < n → cell (domesticDemand n m H E G) i ≤ demandLimit
   demand-within H below i h = demand-small n m H E G i h (le-trans (below i h) (g .small .amounts i .0)) (g .abroad i h)
 
+  own-within : (i : ℕ) → i < n → cell (domesticDemand n m F E G) i ≤ demandLimit
+  own-within = demand-within F (λ i h. le-refl (cell F i))
+
   demands-pass : NowhereBelow n before F → AllPass (demandChecks n (domesticDemand n m before E G) (domesticDemand n m F E G))
   demands-pass grows = (
     λ i h. le-leb _ _ (demand-within before grows i (rw (length-demand n m before E G) at h)),
     (
-      λ i h. le-leb _ _ (demand-within F (λ j k. le-refl (cell F j)) i (rw (length-demand n m F E G) at h)),
+      λ i h. le-leb _ _ (own-within i (rw (length-demand n m F E G) at h)),
       (λ i h. le-leb _ _ (demand-rises n m before F E G grows i h), tt),
     ),
   )
@@ -101,7 +102,7 @@ module _ (n : ℕ) (m before F E G lent : List ℕ) (g : DemandGiven n m F E G l
       (all-accepted (asked ++ bothSettle n (at n d) s t budget) k
       (all-pass-both asked (bothSettle n (at n d) s t budget)
       (all-pass-both (matrixChecks n d [] slices) (demandChecks n s t) (matrix-accepted n d [] slices A refl (equal-each n slices each)) (demands-pass grows))
-      (λ _ _. settles s (demand-within before grows), (λ _ _. settles t (demand-within F (λ j k. le-refl (cell F j))), tt))))
+      (λ _ _. settles s (demand-within before grows), (λ _ _. settles t own-within, tt))))
     where
       settles : (f : List ℕ) → ((i : ℕ) → i < n → cell f i ≤ demandLimit) → leb (settling n (at n d) f budget) budget ≡ true
       settles f small = le-leb _ _ (production-settles A f small budget enough)
@@ -115,12 +116,12 @@ table-passes n x F E imports valueAdded production G matrices others lent ok are
     let t = tableBy n x F E imports valueAdded production G in
     let m = importCoefficients t in
     let A = table-accepted t matrices others ok in
-    let columns = length m ∷ length F ∷ length E ∷ length G ∷ lent in
-    let each : Each n columns = (length-imports t, (A .sizes .columns 0 (lit< tt), (A .sizes .columns 1 (lit< tt), (A .sizes .columns 5 (lit< tt), are)))) in
-    all-accepted (size n ∷ lengths n [] columns ∷ demandAmounts m F E G ++ (exportsWithin n E G ∷ [])) [] (
-      size-passes n [] columns (A .sizes .some) (A .sizes .few),
+    let slices = columns n m F E G lent in
+    let each : Each n slices = (length-imports t, (A .sizes .columns 0 (lit< tt), (A .sizes .columns 1 (lit< tt), (A .sizes .columns 5 (lit< tt), are)))) in
+    all-accepted (domesticDemandChecks n m F E G lent) [] (
+      size-passes n [] slices (A .sizes .some) (A .sizes .few),
       (
-        lengths-pass n [] columns refl (equal-each n columns each),
+        lengths-pass n [] slices refl (equal-each n slices each),
         (
           λ i h. le-leb (cell m i) one (nearest-shares t (A .balance) .imported i (rw (length-imports t) at h) .withinOne),
           (
@@ -146,7 +147,7 @@ module _ {n : ℕ} {m F E G out₀ : List ℕ} {r : Report} {out : List ℕ} whe
             answer ∙ ap (λ (s : List ℕ). domesticDemandReport n s F E G lent) e
             ∙ table-passes n x F E imports valueAdded production G matrices others lent ok (l, tt) in
             (yes, is (ap (λ (q : Report). q .accepted) yes) ∙ ap (λ (s : List ℕ). domesticDemand n s F E G) e);
-        withinLimit = λ ok. subst⁻¹ (λ (l : List ℕ). (i : ℕ) → i < n → cell l i ≤ demandLimit) (is ok) (demand-within n m F F E G lent (given ok) F (λ i h. le-refl (cell F i)));
+        withinLimit = λ ok. subst⁻¹ (λ (l : List ℕ). (i : ℕ) → i < n → cell l i ≤ demandLimit) (is ok) (own-within n m F F E G lent (given ok));
         rises = λ ok before grows. subst⁻¹ (NowhereBelow n (domesticDemand n m before E G)) (is ok) (demand-rises n m before F E G grows);
         comparable = λ ok before grows.
             let s = domesticDemand n m before E G in

@@ -97,7 +97,7 @@ module _ (t : Table) (matrices lent : List ℕ) (ok : coefficientsReport t matri
       let f = tableDemand t in
       let k = settling (t .sectors) (at (t .sectors) (domesticCoefficients t)) f budget in
       production-ready budget
-      ∙ single-passed 9 [] (k ∷ []) (le-leb k budget (production-settles matrix-is-accepted f (table-demand-small) budget h))
+      ∙ single-passed 9 [] (k ∷ []) (le-leb k budget (production-settles matrix-is-accepted f table-demand-small budget h))
 
   -- Theorem, for the reader: document 02, ticket 3, "The accuracy rule now speaks of demands that include G". The production that is settled from an
   -- accepted table's f, here written out, is near every exact balance of that f
@@ -166,4 +166,4 @@ module _ (t : Table) (matrices lent : List ℕ) (ok : coefficientsReport t matri
           (accepted-settled (t .sectors) (domesticCoefficients t) c demandLimit (tableDemand t) budget (t .sectors ∷ t .sectors ∷ []) settles .1)
 
       total : sum (t .sectors) (cell y) ≤ productionLimit
-      total = settled-total matrix-is-accepted (tableDemand t) (table-demand-small) budget
+      total = settled-total matrix-is-accepted (tableDemand t) table-demand-small budget
