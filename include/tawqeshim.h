@@ -5,9 +5,9 @@
  * Link with libtawqeshim.so or with libtawqeshim.a, which scripts/shared-library builds. Both are for x86-64 Linux.
  *
  * A table has n sectors, 1 to 40, counted from 0. Matrices have n * n cells, row by row: the cell of row i and column j is cell i * n +
- * j. Those of a merged table of g sectors have g * g likewise. Amounts are whole numbers of one money unit. Shares and coefficients are
- * whole millionths: "one" is 1,000,000. Input coefficients, value shares and import shares are to the nearest millionth, halves upward;
- * all other quotients are rounded down.
+ * j. Those of a merged table of g sectors have g * g likewise. Amounts are whole numbers of one money unit, 0 or above; only the demand
+ * that tawqeshim_implied_demand gives may be below 0. Shares and coefficients are whole millionths: "one" is 1,000,000. Input
+ * coefficients, value shares and import shares are to the nearest millionth, halves upward; all other quotients are rounded down.
  *
  * Arrays. Each array is a pointer, then its length in cells (of `file` and a page, in bytes). Any lengths, cells, n and budget may be
  * handed over; a wrong length is refused with number 2.
@@ -91,7 +91,8 @@ enum tawqeshim_number {
     TAWQESHIM_REFUSED_LIMIT = 8,
     /* the rounds settle within the budget. Place: 0; of the inverse, the first column that does not settle */
     TAWQESHIM_REFUSED_ROUNDS = 9,
-    /* a given production leaves every sector's demand at 0 or above. Place: the first sector short */
+    /* reserved: no function asks it any more. Before version 4 tawqeshim_implied_demand refused a production that leaves a sector's demand
+       below 0; it gives that demand now. No other question will have the number */
     TAWQESHIM_REFUSED_SHORTAGE = 10,
     /* a record's kind is 1 to 10, and its body is whole. Place of 11 to 14: the offset of the record's kind byte */
     TAWQESHIM_REFUSED_RECORD = 11,
@@ -128,7 +129,7 @@ static inline const char *tawqeshim_question(uint8_t number) {
         "is every column sum of domestic coefficients at most 950,000?",
         "is every demand, direct rise or total of a production within its limit?",
         "do the rounds settle within the budget?",
-        "does the production leave every sector's demand at 0 or above?",
+        "does the production leave every sector's demand at 0 or above? (reserved: no longer asked)",
         "is the record's kind 1 to 10, and its body whole?",
         "is the first record kind 1 with n from 1 to 40, and no later one?",
         "is every sector byte from 1 to n?",
@@ -299,18 +300,23 @@ void tawqeshim_price(
     uint8_t *number, size_t *place, uint32_t *rounds);
 
 /*
- * The demand for domestic goods behind a production. Asks 1, 2, 7, 8, 10.
+ * The demand for domestic goods behind a production, below 0 in a sector that it leaves short. Asks 1, 2, 7, 8.
  *
  * Takes domestic coefficients d, n * n cells, and a production, n cells.
- * Gives the demand in out, n cells. A production that tawqeshim_production gave is accepted, and returns its demand; from the demand
- * behind another, production need not come back, but is nowhere above it.
- * A refusal sets every cell of out to 0.
+ * Gives the demand in out, n SIGNED cells: the production of each sector less what industry takes of it, which is the whole sum of
+ * d[i * n + j] * production[j] over j, divided once by one and rounded down. A cell below 0 is a shortage: industry takes so many units
+ * of the sector more than it makes.
+ *
+ * A production that tawqeshim_production gave is accepted, and returns its demand. Of another production, where no cell is below 0, what
+ * settles from the demand need not be the production again, but is nowhere above it. A demand with a cell below 0 is no input of
+ * tawqeshim_production, and nothing is promised of it.
+ * A refusal sets every cell of out to 0, also where it has another length.
  */
 void tawqeshim_implied_demand(
     size_t n,
     const uint64_t *d, size_t d_length,
     const uint64_t *production, size_t production_length,
-    uint64_t *out, size_t out_length,
+    int64_t *out, size_t out_length,
     uint8_t *number, size_t *place);
 
 /*

@@ -163,12 +163,12 @@ unsafe extern "C" {
         number: *mut u8, place: *mut usize, rounds: *mut u32,
     );
 
-    /// The demand for domestic goods behind a production.
+    /// The demand for domestic goods behind a production: signed cells, below 0 in a sector that it leaves short.
     pub fn tawqeshim_implied_demand(
         n: usize,
         d: *const u64, d_length: usize,
         production: *const u64, production_length: usize,
-        out: *mut u64, out_length: usize,
+        out: *mut i64, out_length: usize,
         number: *mut u8, place: *mut usize,
     );
 

@@ -13,7 +13,7 @@ down.
     production               from a demand for domestic goods to production
     impact                   the rise of production from one demand to a second: what a scheme adds
     price                    from direct price rises to settled ones
-    implied_demand           from production back to the demand behind it
+    implied_demand           from production back to the demand behind it, below 0 in a sector that is short
     induced                  value added and imports that a production induces
     inverse, row             the Leontief inverse with its ratios; a row of a sheet
     read_table, write_table  from the bytes of a table file to its table, and back
@@ -54,8 +54,8 @@ What goes in
     Cells are copied for the call and never changed.
 
 What comes out
-    Lists of integers, in a named tuple where there are several or a count beside them. A matrix is one list, row by row; `row` takes a row
-    out of it. A table file and a page are bytes.
+    Lists of integers, in a named tuple where there are several or a count beside them. Only those of `implied_demand` may be below 0. A
+    matrix is one list, row by row; `row` takes a row out of it. A table file and a page are bytes.
 
 n and budget
     The number of sectors is taken from the length of a column, or from the sheet where there is none; `n` states it. Of a Table it is
@@ -106,7 +106,7 @@ QUESTIONS: dict[int, str] = {
     7: "is every column sum of domestic coefficients at most 950,000?",
     8: "is every demand, direct rise or total of a production within its limit?",
     9: "do the rounds settle within the budget?",
-    10: "does the production leave every sector's demand at 0 or above?",
+    10: "does the production leave every sector's demand at 0 or above? (reserved: no longer asked)",
     11: "is the record's kind 1 to 10, and its body whole?",
     12: "is the first record kind 1 with n from 1 to 40, and no later one?",
     13: "is every sector byte from 1 to n?",
@@ -277,8 +277,9 @@ _EXACT_FLOATS = 2.0**53
 _AMOUNT = 10**9
 _MATRICES = ("flows", "inputs", "domestic")
 
-# Numbers for the library.
+# Numbers for the library, and numbers of it that may be below 0.
 _Slice = ctypes.Array[ctypes.c_uint64]
+_SignedSlice = ctypes.Array[ctypes.c_int64]
 
 
 # ---- the library
@@ -528,6 +529,10 @@ def _stated(n: int) -> _Sectors:
 def _new_column(n: int) -> _Slice:
     """A column of zeros. Its length where n is above 40 does not matter: question 1 is asked first, of groups question 2."""
     return (ctypes.c_uint64 * min(n, _SECTORS))()
+
+
+def _new_signed_column(n: int) -> _SignedSlice:
+    return (ctypes.c_int64 * min(n, _SECTORS))()
 
 
 def _new_matrix(n: int) -> _Slice:
@@ -821,7 +826,7 @@ def price(domestic: "Matrix", rises: "Column", budget: int = PRICE_BUDGET, *, n:
 
 
 def implied_demand(domestic: "Matrix", production: "Column", *, n: Optional[int] = None) -> list[int]:
-    """The demand for domestic goods behind a production. Asks 1, 2, 7, 8, 10.
+    """The demand for domestic goods behind a production: what industry takes, rounded down, is taken off it. Asks 1, 2, 7, 8.
 
     Of a production that `production` gave it is the demand that it was given. Another production can have the same demand behind it:
 
@@ -830,13 +835,18 @@ def implied_demand(domestic: "Matrix", production: "Column", *, n: Optional[int]
     [625, 1280]
     >>> implied_demand(domestic, [1000, 2000])
     [625, 1280]
+
+    A demand below 0 is a shortage. Here the second sector alone makes something, for which industry takes 150 of the first, which makes
+    nothing:
+
     >>> implied_demand(domestic, [0, 1000])
-    Traceback (most recent call last):
-    tawqeshim.Refused: question 10, place 0: does the production leave every sector's demand at 0 or above?
+    [-150, 760]
+
+    A demand with a shortage is no demand for `production`, which raises ValueError of a number below 0.
     """
     amounts = _column("production", production)
     sectors = _size(n, "production", amounts)
-    out = _new_column(sectors.n)
+    out = _new_signed_column(sectors.n)
     _ask_of("implied_demand", sectors, {"domestic": _matrix("domestic", domestic), "production": amounts}, out)
     return out[:]
 

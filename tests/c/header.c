@@ -1,7 +1,7 @@
 /*
  * Tests of include/tawqeshim.h: its constants against what the library accepts and refuses, how shares are rounded, what a final demand
- * demands of domestic goods, how sectors are merged, the questions' texts, the version, and the functions that go by names. tests/run
- * compiles it as C99 and as C++, with every warning an error.
+ * demands of domestic goods, what a production leaves, below 0 too, how sectors are merged, the questions' texts, the version, and the
+ * functions that go by names. tests/run compiles it as C99 and as C++, with every warning an error.
  */
 #include "tawqeshim.h"
 
@@ -40,6 +40,7 @@ static void questions(void) {
     }
     expect(TAWQESHIM_REFUSED_MERGED_AMOUNT == TAWQESHIM_QUESTIONS, "the last question is not the last number");
     expect(strcmp(tawqeshim_question(TAWQESHIM_REFUSED_ROUNDS), "do the rounds settle within the budget?") == 0, "the text of question 9");
+    expect(strstr(tawqeshim_question(TAWQESHIM_REFUSED_SHORTAGE), "reserved") != NULL, "the text of question 10");
     expect(strcmp(tawqeshim_question(TAWQESHIM_REFUSED_END), "does kind 8 come, with no byte after it?") == 0, "the text of question 15");
     expect(strstr(tawqeshim_question(TAWQESHIM_REFUSED_EXPORTS), "exports and adjustment") != NULL, "the text of question 16");
     expect(strstr(tawqeshim_question(TAWQESHIM_REFUSED_LOWER_DEMAND), "second demand") != NULL, "the text of question 17");
@@ -67,7 +68,8 @@ static void rise(uint64_t w) {
 }
 
 static void imply(uint64_t production) {
-    uint64_t d = 0, out;
+    uint64_t d = 0;
+    int64_t out;
     tawqeshim_implied_demand(1, &d, 1, &production, 1, &out, 1, &number, &place);
 }
 
@@ -241,6 +243,47 @@ static void demands(void) {
         demand(worked, lent);
         answers(TAWQESHIM_REFUSED_LENGTH, 0, "a demand into another length");
         expect(nothing_demanded(lent), "a demand that is refused with 2 is not 0");
+    }
+}
+
+/* What a production of two sectors leaves for demand on the worked sheet, in so many cells. */
+static int64_t left[4];
+static void leave(uint64_t first, uint64_t second, size_t lent) {
+    const uint64_t d[4] = {75000, 150000, 240000, 240000};
+    const uint64_t production[2] = {first, second};
+    memset(left, 0x87, sizeof left);
+    tawqeshim_implied_demand(2, d, 4, production, 2, left, lent, &number, &place);
+}
+
+/* So many cells are these, and nothing else is written. */
+static int left_is(int64_t first, int64_t second, size_t lent) {
+    const int64_t cells[4] = {first, second, 0, 0};
+    int64_t untouched;
+    memset(&untouched, 0x87, sizeof untouched);
+    for (size_t i = 0; i < 4; i++)
+        if (left[i] != (i < lent ? cells[i] : untouched))
+            return 0;
+    return 1;
+}
+
+static void shortages(void) {
+    leave(999, 1999, 2);
+    answers(TAWQESHIM_ACCEPTED, 0, "a settled production");
+    expect(left_is(625, 1280, 2), "the demand behind a settled production");
+    leave(0, 1000, 2);
+    answers(TAWQESHIM_ACCEPTED, 0, "a production that leaves a shortage");
+    expect(left_is(-150, 760, 2), "the demand with a shortage");
+    leave(0, 1001, 2);
+    expect(left_is(-150, 761, 2), "what industry takes of a short sector is not rounded down");
+    leave(0, TAWQESHIM_PRODUCTION_LIMIT + 1, 2);
+    answers(TAWQESHIM_REFUSED_LIMIT, 1, "a production over its limit that leaves a shortage");
+    expect(left_is(0, 0, 2), "a demand that is refused with 8 is not 0");
+    for (size_t lent = 0; lent <= 4; lent++) {
+        if (lent == 2)
+            continue;
+        leave(0, 1000, lent);
+        answers(TAWQESHIM_REFUSED_LENGTH, 0, "a demand behind a production into another length");
+        expect(left_is(0, 0, lent), "a demand behind a production that is refused with 2 is not 0");
     }
 }
 
@@ -514,6 +557,7 @@ int main(void) {
     limits();
     nearest();
     demands();
+    shortages();
     merging();
     sizes();
     files();

@@ -1,6 +1,6 @@
 """Tests of python/tawqeshim.py: refusals, what it takes as cells and what it does not, how shares are rounded, demands for domestic
-goods, what schemes add, the slowest sheets, its library, the worked table from its file to its page, tables written as files, merged
-tables, its records, help and types. Tests of numpy, pandas and mypy are skipped where these are not installed."""
+goods, what schemes add, shortages, the slowest sheets, its library, the worked table from its file to its page, tables written as files,
+merged tables, its records, help and types. Tests of numpy, pandas and mypy are skipped where these are not installed."""
 import copy
 import ctypes
 import doctest
@@ -78,7 +78,6 @@ class Refusals(Refusing):
         self.refused(8, 0, t.production, DOMESTIC, [2**64 - 1, 0])
         self.refused(9, 0, t.production, DOMESTIC, DEMAND, 8)
         self.refused(17, 1, t.impact, DOMESTIC, DEMAND, [626, 1279])
-        self.refused(10, 0, t.implied_demand, DOMESTIC, [0, 1000])
         self.refused(18, 0, t.aggregate, t.Table.of(**table()), [[0], [0, 1]])
         self.refused(19, 0, t.aggregate, t.Table.of([0] * 4, [10**9, 1], [0, 0], [0, 0], [10**9, 1], [10**9, 1]), [[0, 1]])
         for number, place, file in [(11, 2, [1, 2, 11]), (11, 2, [1, 2, 10, 1, 0, 0, 0]), (12, 0, [1, 41]),
@@ -636,6 +635,50 @@ class Schemes(unittest.TestCase):
         for demand in (DEMAND, [0, 0], [2_000_000_000, 1]):
             self.assertEqual(t.impact(DOMESTIC, demand, demand), ([0, 0], t.production(DOMESTIC, demand).rounds))
         self.assertEqual(t.impact(DOMESTIC, DEMAND, DEMAND, 9), ([0, 0], 9))
+
+
+class Shortages(Refusing):
+    """Demands behind productions, below 0 where a sector is short."""
+
+    LIMIT = 1_600_000_000_000
+
+    def behind(self, domestic, production):
+        """By the paper, in Python's own numbers."""
+        n = len(production)
+        return [made - sum(d * y for d, y in zip(domestic[i * n:], production)) // 1_000_000 for i, made in enumerate(production)]
+
+    def test_worked(self):
+        for domestic, production, expected in [
+                (DOMESTIC, MADE[0], DEMAND), (ROWS, array("q", [1000, 2000]), DEMAND), (DOMESTIC, (0, 1000.0), [-150, 760]),
+                (DOMESTIC, [0, 1001], [-150, 761]), (DOMESTIC, [162, 1000], [0, 722]), (DOMESTIC, [161, 1000], [-1, 722]),
+                (DOMESTIC, [1000, 0], [925, -240]), (DOMESTIC, [0, 0], [0, 0]),
+                ([0, 950_000, 0, 0], [0, self.LIMIT], [-1_520_000_000_000, self.LIMIT]),
+                ([23_750] * 1600, [0] + [1000] * 39, [-926] + [74] * 39)]:
+            self.assertEqual(t.implied_demand(domestic, production), expected)
+
+    def test_by_the_paper(self):
+        short = 0
+        for n in (1, 2, 7, 40):
+            for k in range(200):
+                domestic = [(i * 7919 + k * 104_729) % (950_000 // n + 1) for i in range(n * n)]
+                production = [(i * 15_485_863 + k * k) * (k + i) % (self.LIMIT // n + 1) * (i % 3 != k % 3) for i in range(n)]
+                demand = t.implied_demand(domestic, production)
+                self.assertEqual(demand, self.behind(domestic, production))
+                short += min(demand) < 0
+        self.assertGreater(short, 200)
+
+    def test_forward_and_back(self):
+        for demand in (DEMAND, [0, 0], [0, 2_000_000_000]):
+            self.assertEqual(t.implied_demand(DOMESTIC, t.production(DOMESTIC, demand).amounts), demand)
+        with self.assertRaisesRegex(ValueError, r"demand\[0\] is -150, below 0$"):
+            t.production(DOMESTIC, t.implied_demand(DOMESTIC, [0, 1000]))
+
+    def test_refusals(self):
+        self.refused(8, 1, t.implied_demand, DOMESTIC, [0, self.LIMIT + 1])
+        self.refused(7, 1, t.implied_demand, [0, 950_001, 0, 0], [0, self.LIMIT + 1])
+        self.refused(1, 0, t.implied_demand, [0] * 41 * 41, [0] * 41)
+        self.refused(2, 0, t.implied_demand, DOMESTIC, [0, 1000, 0])
+        self.assertIn("reserved", t.QUESTIONS[10])
 
 
 class Merging(Refusing):

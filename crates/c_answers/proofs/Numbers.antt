@@ -7,12 +7,13 @@ use Prim.Native.Nat.{ℕ}
 use native.Mathlib.Omega.{arith}
 use borrow.Author.Tests.{ne-eqb, leb-true}
 use lib.Dec.{eqb, leb}
+use lib.IntN.{ℤ}
 use lib.ListN.{length}
 use Rattle.model.specs.Numbers.{at, transposed}
 use Rattle.model.specs.Table.{Table}
 use Rattle.model.specs.Rounds.{settling, inverseRounds, impactRounds}
-use Rattle.model.specs.Checks.{Report, reportRead, reportTold, Check, amountLimit, balanceChecks, bothSettle, verdict, columnSums, columnsSettle, demandChecks, demandLeft, demandLimit, inducedAmounts, lengths, productionTotal, riseLimit, single, size}
-use Rattle.model.specs.Calls.{coefficientsReport, domesticCoefficients, domesticDemandChecks, domesticDemandReport, impactReport, impliedReport, inducedReport, inverseReport, matrixChecks, priceReport, productionReport, settlingChecks, tableChecks}
+use Rattle.model.specs.Checks.{Report, reportRead, reportTold, Check, amountLimit, balanceChecks, bothSettle, verdict, columnSums, columnsSettle, demandChecks, demandLimit, inducedAmounts, lengths, productionTotal, riseLimit, single, size}
+use Rattle.model.specs.Calls.{coefficientsReport, domesticCoefficients, domesticDemandChecks, domesticDemandReport, impactReport, impliedChecks, impliedReport, inducedReport, inverseReport, matrixChecks, priceReport, productionReport, settlingChecks, tableChecks}
 use Rattle.model.specs.Aggregation.{partitioned, mergedWithin, aggregateChecks, aggregateReport}
 use Rattle.model.specs.Contracts.{Derived, Demanded, Aggregated, Produced, Priced, Compared, Implied, Induced, Inverted, Slices, readingInto, FileRead, FileWritten, tableFrom, PagePrinted}
 use Rattle.model.specs.File.{Reading, answerOf}
@@ -70,7 +71,7 @@ module _ (n : ℕ) (d : List ℕ) where
 
   pub implied-number : (y lent : List ℕ) → Numbered (impliedReport n d y lent)
   unfolding impliedReport
-  implied-number y lent = numbered (matrixChecks n d [] (length y ∷ lent) ++ (productionTotal n y ∷ demandLeft n (at n d) y ∷ [])) [] refl
+  implied-number y lent = numbered (impliedChecks n d y lent) [] refl
 
   pub inverse-number : (budget : ℕ) (matrices lent : List ℕ) → Numbered (inverseReport n d budget matrices lent)
   unfolding inverseReport
@@ -136,7 +137,7 @@ module _ {number place : ℕ} {counts : List ℕ} where
         → Compared n d before after budget o w (reportTold number place counts) out work
     compared-told {n} {budget} {d} {before} {after} made = rw (as-told r told (made .answer) (impact-number n d before after budget _)) made
 
-    pub implied-told : {n : ℕ} {d y o out : List ℕ} → Implied n d y o r out → Implied n d y o (reportTold number place counts) out
+    pub implied-told : {n : ℕ} {d y : List ℕ} {o out : List ℤ} → Implied n d y o r out → Implied n d y o (reportTold number place counts) out
     implied-told {n} {d} {y} made = rw (as-told r told (made .answer) (implied-number n d y _)) made
 
     pub induced-told : {n : ℕ} {a m v F y b c value imports : List ℕ} → Induced n a m v F y b c r value imports

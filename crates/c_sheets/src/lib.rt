@@ -30,13 +30,13 @@ pub extern "C" fn tawqeshim_domestic_demand(
     tell_answer(answer, number, place);
 }
 
-// The demand for domestic goods behind a production. Asks 1, 2, 7, 8, 10.
+// The demand for domestic goods behind a production, below 0 where a sector is short. Asks 1, 2, 7, 8.
 #[no_mangle]
 pub extern "C" fn tawqeshim_implied_demand(
     n: usize,
     d: &[u64],
     production: &[u64],
-    out: &mut [u64],
+    out: &mut [i64],
     number: &mut u8,
     place: &mut usize,
 )

@@ -1,20 +1,17 @@
 // The checks of document 01 as scans over lent slices. Each answers its number and its first failing place, or that it passes.
-use cells::intermediate_use;
 use model::Answer;
 use model::COLUMN_LIMIT;
 use model::PRODUCTION_LIMIT;
 use model::SECTORS;
 ghost use mathlib.Core.List.{List, [], _∷_, _++_};
 ghost use mathlib.Core.Path.{_≡_};
-ghost use Prim.Native.Nat.{ℕ, _+_, _*_, _^_, _<_, _≤_};
+ghost use Prim.Native.Nat.{_+_, _*_, _^_, _<_};
 ghost use lib.Dec.{eqb};
 ghost use lib.ListN.{length};
-ghost use Rattle.model.specs.Numbers.{all, at, cell};
+ghost use Rattle.model.specs.Numbers.{all, at};
 ghost use Rattle.model.specs.Table.{fewSectors};
-ghost use Rattle.model.specs.Rounds.{weighted};
-ghost use Rattle.model.specs.Checks.{Check, report, verdict, bounded, size, lengths, columnSums, productionTotal, demandLeft};
+ghost use Rattle.model.specs.Checks.{Check, report, verdict, bounded, size, lengths, columnSums, productionTotal};
 ghost use Rattle.model.specs.Calls.{matrixChecks};
-ghost use Rattle.theory_rounds.specs.Bounds.{sumLimit};
 ghost use Rattle.theory.specs.Slices.{Each};
 
 // Question 1: is n from 1 to 40?
@@ -171,23 +168,6 @@ pub fn total_within(n: usize, y: &[u64]) -> Answer
             };
         }
         total += amount;
-    }
-    Answer::Accepted
-}
-
-// Question 10: does the production leave every sector's demand at 0 or above?
-pub fn demand_left(n: usize, d: &[u64], y: &[u64]) -> Answer
-    requires { ⌜ (length (now d) ≡ n * n) × (length (now y) ≡ n) ⌝ }
-    requires { ⌜ ((i : ℕ) → i < n → weighted n (at n (now d)) (cell (now y)) i ≤ sumLimit) ⌝ }
-    ensures { λ r. ⌜ report r ≡ verdict (demandLeft n (at n (now (d .entry))) (now (y .entry)) ∷ []) [] ⌝ }
-{
-    for i in 0..n {
-        if y[i] < intermediate_use(n, d, y, i) {
-            return Answer::Refused {
-                number: 10,
-                place: i,
-            };
-        }
     }
     Answer::Accepted
 }

@@ -4,78 +4,94 @@ use mathlib.Core.Bool.{true, cond}
 use mathlib.Core.List.{List, [], _∷_, _++_, map}
 use Prim.Native.Nat.{ℕ, _+_, _*_}
 use lib.Dec.{eqb}
+use lib.IntN.{ℤ, pos, negℤ}
 use lib.ListN.{length, replicate}
-use Rattle.model.specs.Numbers.{one, tabulate, tabulateCells, cell, at, transposed}
+use Rattle.model.specs.Numbers.{one, signed, tabulate, cell, at, transposed}
 use Rattle.model.specs.Table.{Table, tableBy, share, absorption, inputCoefficient, valueAddedCoefficient, importCoefficient, domesticCoefficient, domesticDemand}
 use Rattle.model.specs.Rounds.{weighted, intermediate, round, rounds, changes, settling, settled, impliedDemand, inducedValueAdded, inducedImports, unit, inverse, inverseRounds, dispersion, rowSlice, impact, impactRounds}
-use Rattle.model.specs.Checks.{Report, accepts, refuses, output, productionBudget, priceBudget}
+use Rattle.model.specs.Checks.{Report, accepts, refuses, output, signedOutput, productionBudget, priceBudget}
 use Rattle.model.specs.Calls.{coefficientsReport, inputCoefficients, valueAddedCoefficients, importCoefficients, domesticCoefficients, tableDemand, domesticDemandReport, productionReport, priceReport, impliedReport, inducedReport, inverseReport, impactReport}
 use Rattle.model.specs.Aggregation.{mergedTable, groupTotal, groupSizes, aggregateReport}
+use Rattle.model.specs.Unsigned.{unsignedReport, unsignedDemand}
 
--- what a call says, and its output slices after it
+-- what a call says, and its output slices after it, which may hold numbers below 0
 pub record Result : Type 0 where
   pub said : Report
-  pub outputs : List (List ℕ)
+  pub outputs : List (List ℤ)
 
 -- what the definitions give, and what the paper says
 pub record Row : Type 0 where
   pub given : Result
   pub stated : Result
 
+infix 68 _⊳_ _leaving_ _leavingSigned_
+abbrev _⊳_ : Result → Result → Row
+g ⊳ s = record { given = g; stated = s }
+
+-- a report, and what the call leaves in its output slices
+abbrev _leavingSigned_ : Report → List (List ℤ) → Result
+r leavingSigned cells = record { said = r; outputs = cells }
+
+abbrev _leaving_ : Report → List (List ℕ) → Result
+r leaving cells = r leavingSigned map signed cells
+
+abbrev minus : ℕ → ℤ
+minus k = negℤ (pos k)
+
 -- ---- the calls, each lent slices of the right lengths
 abbrev coefficientsOf : Table → Result
 coefficientsOf t =
     let n = t .sectors in
     let r = coefficientsReport t (n * n ∷ n * n ∷ []) (n ∷ n ∷ n ∷ []) in
-    record {
-      said = r;
-      outputs =
-          output r (n * n) (inputCoefficients t)
-          ∷ output r n (valueAddedCoefficients t)
-          ∷ output r n (importCoefficients t)
-          ∷ output r (n * n) (domesticCoefficients t)
-          ∷ output r n (tableDemand t)
-          ∷ [];
-    }
+    r leaving
+    (output r (n * n) (inputCoefficients t)
+    ∷ output r n (valueAddedCoefficients t)
+    ∷ output r n (importCoefficients t)
+    ∷ output r (n * n) (domesticCoefficients t)
+    ∷ output r n (tableDemand t)
+    ∷ [])
 
 module _ (n : ℕ) (d : List ℕ) where
   abbrev productionOf : List ℕ → ℕ → Result
   productionOf f budget =
       let r = productionReport n d f budget (n ∷ n ∷ []) in
-      record { said = r; outputs = output r n (settled n (at n d) f budget) ∷ [] }
+      r leaving (output r n (settled n (at n d) f budget) ∷ [])
 
   abbrev priceOf : List ℕ → ℕ → Result
   priceOf w budget =
       let r = priceReport n d w budget (n ∷ n ∷ []) in
-      record { said = r; outputs = output r n (settled n (transposed (at n d)) w budget) ∷ [] }
+      r leaving (output r n (settled n (transposed (at n d)) w budget) ∷ [])
 
   abbrev impliedOf : List ℕ → Result
   impliedOf y =
       let r = impliedReport n d y (n ∷ []) in
-      record { said = r; outputs = output r n (impliedDemand n (at n d) y) ∷ [] }
+      r leavingSigned (signedOutput r n (impliedDemand n (at n d) y) ∷ [])
+
+  -- document 01's call
+  abbrev unsignedOf : List ℕ → Result
+  unsignedOf y =
+      let r = unsignedReport n d y (n ∷ []) in
+      r leaving (output r n (unsignedDemand n (at n d) y) ∷ [])
 
   abbrev impactOf : List ℕ → List ℕ → ℕ → Result
   impactOf before after budget =
       let r = impactReport n d before after budget (n ∷ n ∷ []) in
-      record { said = r; outputs = output r n (impact n (at n d) before after budget) ∷ [] }
+      r leaving (output r n (impact n (at n d) before after budget) ∷ [])
 
   abbrev inverseOf : ℕ → Result
   inverseOf budget =
       let r = inverseReport n d budget (n * n ∷ []) (n ∷ n ∷ []) in
-      record {
-        said = r;
-        outputs =
-            output r (n * n) (inverse n d budget)
-            ∷ output r n (dispersion n (at n (inverse n d budget)))
-            ∷ output r n (dispersion n (transposed (at n (inverse n d budget))))
-            ∷ [];
-      }
+      r leaving
+      (output r (n * n) (inverse n d budget)
+      ∷ output r n (dispersion n (at n (inverse n d budget)))
+      ∷ output r n (dispersion n (transposed (at n (inverse n d budget))))
+      ∷ [])
 
   -- here d stands for the input coefficients a
   abbrev inducedOf : (m v F y : List ℕ) → Result
   inducedOf m v F y =
       let r = inducedReport n d m v F y (n ∷ n ∷ []) in
-      record { said = r; outputs = output r n (inducedValueAdded n v y) ∷ output r n (inducedImports n (at n d) m F y) ∷ [] }
+      r leaving (output r n (inducedValueAdded n v y) ∷ output r n (inducedImports n (at n d) m F y) ∷ [])
 
   -- the two sides of an exact balance b / q over a start s
   abbrev pub leftSide : List ℕ → List ℕ
@@ -83,14 +99,6 @@ module _ (n : ℕ) (d : List ℕ) where
 
   abbrev pub rightSide : List ℕ → ℕ → List ℕ → List ℕ
   rightSide s q b = tabulate n (λ i. one * q * cell s i + weighted n (at n d) (cell b) i)
-
-infix 68 _⊳_ _leaving_
-abbrev _⊳_ : Result → Result → Row
-g ⊳ s = record { given = g; stated = s }
-
--- a report, and what the call leaves in its output slices
-abbrev _leaving_ : Report → List (List ℕ) → Result
-r leaving cells = record { said = r; outputs = cells }
 
 -- 1 × b is an exact balance of the start s: its two sides are equal
 abbrev balance : ℕ → List ℕ → List ℕ → List ℕ → Row
@@ -121,10 +129,10 @@ rows =
     ∷ productionOf 2 d f 4294967295 ⊳ (accepts (9 ∷ []) leaving ((999 ∷ 1999 ∷ []) ∷ []))
     ∷ balance 2 d f (1000 ∷ 2000 ∷ [])
     ∷ productionOf 2 d f 8 ⊳ (refuses 1 9 0 leaving ((0 ∷ 0 ∷ []) ∷ []))
-    -- P4 to P6
+    -- P4 to P6; P6 as document 02, ticket 8, has it
     ∷ impliedOf 2 d (999 ∷ 1999 ∷ []) ⊳ (accepts [] leaving (f ∷ []))
     ∷ impliedOf 2 d (1000 ∷ 2000 ∷ []) ⊳ (accepts [] leaving (f ∷ []))
-    ∷ impliedOf 2 d (0 ∷ 1000 ∷ []) ⊳ (refuses 0 10 0 leaving ((0 ∷ 0 ∷ []) ∷ []))
+    ∷ impliedOf 2 d (0 ∷ 1000 ∷ []) ⊳ (accepts [] leavingSigned ((minus 150 ∷ pos 760 ∷ []) ∷ []))
     -- P7
     ∷ priceOf 2 d (10000 ∷ 0 ∷ []) 4294967295 ⊳ (accepts (10 ∷ []) leaving ((11393 ∷ 2248 ∷ []) ∷ []))
     -- P8 and its exact balance; P9; P10
@@ -200,7 +208,7 @@ questionRows =
     ∷ inducedOf 2 idle (0 ∷ 0 ∷ []) (0 ∷ 1000001 ∷ []) (1000000001 ∷ 0 ∷ []) (1600000000001 ∷ 0 ∷ []) ⊳ (refuses 0 3 7 leaving nothingInduced)
     ∷ inducedOf 2 idle (0 ∷ 0 ∷ []) (0 ∷ 0 ∷ []) (0 ∷ 1000000001 ∷ []) (1600000000001 ∷ 0 ∷ []) ⊳ (refuses 0 3 9 leaving nothingInduced)
     ∷ inducedOf 2 idle (0 ∷ 0 ∷ []) (0 ∷ 0 ∷ []) (0 ∷ 1000000000 ∷ []) (1600000000000 ∷ 1 ∷ []) ⊳ (refuses 0 8 1 leaving nothingInduced)
-    -- of several faults the first is told: 1 before 2, 2 before 3 and 7, 7 before 8, 8 before 9 and 10
+    -- of several faults the first is told: 1 before 2, 2 before 3 and 7, 7 before 8, 8 before 9
     ∷ coefficientsOf (tableBy 0 (1 ∷ []) [] [] [] [] [] []) ⊳ (refuses 0 1 0 leaving ([] ∷ [] ∷ [] ∷ [] ∷ [] ∷ []))
     ∷ coefficientsOf (tableBy 1 (1000000001 ∷ []) [] (0 ∷ []) (0 ∷ []) (0 ∷ []) (0 ∷ []) (0 ∷ [])) ⊳ (refuses 0 2 0 leaving ((0 ∷ []) ∷ (0 ∷ []) ∷ (0 ∷ []) ∷ (0 ∷ []) ∷ (0 ∷ []) ∷ []))
     ∷ productionOf 0 idle (0 ∷ []) 0 ⊳ (refuses 1 1 0 leaving ([] ∷ []))
@@ -263,7 +271,7 @@ worked-adjustment = refl
 abbrev demandOf : (n : ℕ) (m F E G : List ℕ) → Result
 demandOf n m F E G =
     let r = domesticDemandReport n m F E G (n ∷ []) in
-    record { said = r; outputs = output r n (domesticDemand n m F E G) ∷ [] }
+    r leaving (output r n (domesticDemand n m F E G) ∷ [])
 
 -- with the worked table's import shares and exports, and an adjustment item of 0
 abbrev workedDemand : List ℕ → Result
@@ -384,12 +392,10 @@ abbrev mergedOf : Table → List ℕ → Result
 mergedOf t groups =
     let g = length groups in
     let r = aggregateReport t groups (g * g ∷ []) (g ∷ g ∷ g ∷ g ∷ g ∷ g ∷ g ∷ []) in
-    record {
-      said = r;
-      outputs = output r (g * g) (mergedTable t groups .flows)
-          ∷ map (output r g) (mergedTable t groups .columns)
-          ++ (output r g (groupSizes (t .sectors) groups) ∷ []);
-    }
+    r leaving
+    (output r (g * g) (mergedTable t groups .flows)
+    ∷ map (output r g) (mergedTable t groups .columns)
+    ++ (output r g (groupSizes (t .sectors) groups) ∷ []))
 
 -- three sectors with an adjustment item: F, E, M, V, X and G
 abbrev threeSectors : Table
@@ -399,7 +405,7 @@ threeSectors =
 
 -- what a refused call leaves in slices for g sectors
 abbrev nothing : ℕ → List (List ℕ)
-nothing g = tabulateCells 8 (λ c. replicate (cond (eqb c 0) (g * g) g) 0)
+nothing g = tabulate 8 (λ c. replicate (cond (eqb c 0) (g * g) g) 0)
 
 -- two sectors without flows, that make 600,000,000 and p for final demand
 abbrev forDemand : ℕ → Table
@@ -447,6 +453,33 @@ mergedRows =
 pub worked-merging : map (λ (r : Row). r .given) mergedRows ≡ map (λ (r : Row). r .stated) mergedRows
 unfolding mergedRows aggregateReport groupTotal groupSizes absorption
 worked-merging = refl
+
+-- ---- document 02, ticket 8: productions that leave a shortage
+unfoldable pub shortageRows : List Row
+shortageRows =
+    -- what industry takes is rounded down before it is taken off, of a sector that is short too: 150.15 and 240.24. A difference rounded down would
+    -- be -151
+    impliedOf 2 d (0 ∷ 1001 ∷ []) ⊳ (accepts [] leavingSigned ((minus 150 ∷ pos 761 ∷ []) ∷ []))
+    -- exactly nothing is left, one unit is lacking; the second sector is short
+    ∷ impliedOf 2 d (162 ∷ 1000 ∷ []) ⊳ (accepts [] leaving leaves 0 722)
+    ∷ impliedOf 2 d (161 ∷ 1000 ∷ []) ⊳ (accepts [] leavingSigned ((minus 1 ∷ pos 722 ∷ []) ∷ []))
+    ∷ impliedOf 2 d (1000 ∷ 0 ∷ []) ⊳ (accepts [] leavingSigned ((pos 925 ∷ minus 240 ∷ []) ∷ []))
+    -- the largest shortage
+    ∷ impliedOf 2 (0 ∷ 950000 ∷ 0 ∷ 0 ∷ []) (0 ∷ 1600000000000 ∷ []) ⊳ (accepts [] leavingSigned ((minus 1520000000000 ∷ pos 1600000000000 ∷ []) ∷ []))
+    -- document 01's call: P4 to P6; 10 where a unit is lacking and not where nothing is left, at the first sector that is short, after 8
+    ∷ unsignedOf 2 d (999 ∷ 1999 ∷ []) ⊳ (accepts [] leaving (f ∷ []))
+    ∷ unsignedOf 2 d (1000 ∷ 2000 ∷ []) ⊳ (accepts [] leaving (f ∷ []))
+    ∷ unsignedOf 2 d (0 ∷ 1000 ∷ []) ⊳ (refuses 0 10 0 leaving leaves 0 0)
+    ∷ unsignedOf 2 d (162 ∷ 1000 ∷ []) ⊳ (accepts [] leaving leaves 0 722)
+    ∷ unsignedOf 2 d (161 ∷ 1000 ∷ []) ⊳ (refuses 0 10 0 leaving leaves 0 0)
+    ∷ unsignedOf 2 d (1000 ∷ 0 ∷ []) ⊳ (refuses 0 10 1 leaving leaves 0 0)
+    ∷ unsignedOf 2 d (0 ∷ 1600000000001 ∷ []) ⊳ (refuses 0 8 1 leaving leaves 0 0)
+    ∷ []
+
+-- Theorem, for the reader: every case above is answered as stated
+pub worked-shortages : map (λ (r : Row). r .given) shortageRows ≡ map (λ (r : Row). r .stated) shortageRows
+unfolding shortageRows impliedReport unsignedReport intermediate impliedDemand unsignedDemand
+worked-shortages = refl
 
 -- ---- question 2 of what is lent
 -- calls with one length that is too large, of the last matrix or of the last column

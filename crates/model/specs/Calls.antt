@@ -7,7 +7,7 @@ use lib.ListN.{length}
 use Rattle.model.specs.Numbers.{Cells, Sheet, tabulate, at, matrix, transposed}
 use Rattle.model.specs.Table.{Table, inputCoefficient, valueAddedCoefficient, importCoefficient, domesticCoefficient, domesticDemand, finalDemand, exports, adjustment}
 use Rattle.model.specs.Rounds.{settling, inverseRounds, impactRounds}
-use Rattle.model.specs.Checks.{Report, Check, verdict, single, size, lengths, tableAmounts, inducedAmounts, demandAmounts, exportsWithin, balanceChecks, columnSums, bounded, demandLimit, riseLimit, productionTotal, settles, columnsSettle, demandLeft, demandChecks, bothSettle}
+use Rattle.model.specs.Checks.{Report, Check, verdict, single, size, lengths, tableAmounts, inducedAmounts, demandAmounts, exportsWithin, balanceChecks, columnSums, bounded, demandLimit, riseLimit, productionTotal, settles, columnsSettle, demandChecks, bothSettle}
 
 module _ (t : Table) where
   -- The results of sheets from a table: a, v, m, d and f
@@ -67,10 +67,12 @@ module _ (n : ℕ) (d : Cells) where
   unfoldable pub priceReport : (w : Cells) (budget : ℕ) (lent : List ℕ) → Report
   priceReport w budget lent = settlingReport (transposed (at n d)) riseLimit w budget lent
 
-  -- Backwards asks 1, 2, 7, 8, 10; its result: `impliedDemand n (at n d) y`
+  -- Backwards asks 1, 2, 7, 8 (document 02, ticket 8: 10 no longer); its result: `impliedDemand n (at n d) y`
+  abbrev pub impliedChecks : (y : Cells) (lent : List ℕ) → List Check
+  impliedChecks y lent = matrixChecks [] (length y ∷ lent) ++ (productionTotal n y ∷ [])
+
   unfoldable pub impliedReport : (y : Cells) (lent : List ℕ) → Report
-  impliedReport y lent =
-      verdict (matrixChecks [] (length y ∷ lent) ++ (productionTotal n y ∷ demandLeft n (at n d) y ∷ [])) []
+  impliedReport y lent = verdict (impliedChecks y lent) []
 
   -- The inverse sheet asks 1, 2, 7, 9; its results: z, which is `inverse n d budget`, `dispersion n (at n z)` and
   -- `dispersion n (transposed (at n z))`

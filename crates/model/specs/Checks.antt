@@ -3,10 +3,11 @@ use mathlib.Core.Bool.{Bool, true, false, _&&_, cond}
 use mathlib.Core.List.{List, [], _∷_, map}
 use Prim.Native.Nat.{ℕ, suc, _+_, _*_}
 use lib.Dec.{eqb, leb, ltb}
+use lib.IntN.{pos}
 use lib.ListN.{length, replicate}
-use Rattle.model.specs.Numbers.{Cells, Sheet, one, sum, first, all, cell, at, columnSum}
+use Rattle.model.specs.Numbers.{Cells, Sheet, SignedCells, one, sum, first, all, cell, at, columnSum}
 use Rattle.model.specs.Table.{Table, fewSectors, flow, need, exports, imports, valueAdded, production, adjustment, adjustedExports}
-use Rattle.model.specs.Rounds.{intermediate, settling, unit}
+use Rattle.model.specs.Rounds.{settling, unit}
 use Rattle.model.specs.declared.Answer.{Answer}
 use Rattle.model.specs.declared.Answer.the-variants.{Accepted, Refused}
 use Rattle.model.specs.declared.Outcome.{Outcome}
@@ -84,9 +85,15 @@ verdict (q ∷ qs) ks =
     let later = verdict qs ks in
     cond (ltb cell (q .places)) (refuses (length ks) (q .number) (q .offset + cell)) later
 
--- What a call leaves in an output slice: the result, or 0 in every cell, whatever the slice's length
+-- What a call leaves in an output slice: the result, or 0 in every cell, whatever the slice's length. `none` is the 0 of its cells
+abbrev pub outputOf : {A : Type 0} (none : A) → Report → ℕ → List A → List A
+outputOf none r len result = cond (r .accepted) result (replicate len none)
+
 abbrev pub output : Report → ℕ → Cells → Cells
-output r len result = cond (r .accepted) result (replicate len 0)
+output = outputOf 0
+
+abbrev pub signedOutput : Report → ℕ → SignedCells → SignedCells
+signedOutput = outputOf (pos 0)
 
 -- check k at each of n places, and one whose place is always 0
 abbrev pub each : ℕ → ℕ → (ℕ → Bool) → Check
@@ -193,9 +200,7 @@ productionBudget = 1_400
 abbrev pub priceBudget : ℕ
 priceBudget = 1_400
 
--- 10. a given production leaves every sector's demand at 0 or above
-abbrev pub demandLeft : ℕ → Sheet → Cells → Check
-demandLeft n c y = each 10 n (λ i. leb (intermediate n c (cell y) i) (cell y i))
+-- 10. reserved: no call asks it (document 02, ticket 8). What it asked is `demandLeft` of Unsigned
 
 -- 17. document 02, ticket 4, asked after 8: the second demand is nowhere below the first
 abbrev pub notBelow : (n : ℕ) (before after : Cells) → Check

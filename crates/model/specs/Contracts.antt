@@ -7,11 +7,11 @@ use mathlib.Core.Bool.{true}
 use mathlib.Core.List.{List, [], _∷_, _++_, map, reverse}
 use Prim.Native.Nat.{ℕ, _*_, _≤_, _<_}
 use lib.ListN.{length, getD, take, replicate}
-use Rattle.model.specs.Numbers.{Cells, sum, cell, at, transposed}
+use Rattle.model.specs.Numbers.{Cells, SignedCells, signed, sum, cell, at, transposed}
 use Rattle.model.specs.Table.{Table, tableOf, tableBy, column, finalDemand, exports, adjustment, domesticDemand}
 use Rattle.model.specs.Bytes.{Bytes, padded}
 use Rattle.model.specs.Rounds.{settled, Settles, impliedDemand, inducedValueAdded, inducedImports, inverse, dispersion, settling, impact}
-use Rattle.model.specs.Checks.{Report, accepts, verdict, output, reportRead, roundsOf, sectorsOf, bytesOf, tableAmounts, columnSums, demandLimit, demandChecks, productionBudget, priceBudget}
+use Rattle.model.specs.Checks.{Report, accepts, verdict, output, signedOutput, reportRead, roundsOf, sectorsOf, bytesOf, tableAmounts, columnSums, demandLimit, demandChecks, productionBudget, priceBudget}
 use Rattle.model.specs.Calls.{tableChecks, coefficientsReport, inputCoefficients, valueAddedCoefficients, importCoefficients, domesticCoefficients, tableDemand, domesticDemandReport, productionReport, priceReport, impliedReport, inducedReport, inverseReport, impactReport}
 use Rattle.model.specs.Aggregation.{mergedTable, groupSizes, aggregateReport}
 use Rattle.model.specs.Promises.{Equal, Distinguishes, Accurate, AccuratePrices, Returns, NotAbove, NowhereBelow, added, OrderedInside, Rises, NearestShares, SameTotals}
@@ -19,6 +19,7 @@ use Rattle.model.specs.File.{Entry, Reading, reading, called, answerOf, 
 use Rattle.model.specs.Writer.{tableEntries, written, fileBytes, writerReport, InForm, returned}
 use Rattle.model.specs.Page.{refusalLine, page, pageLimit, pageReport, pageBytes}
 use Rattle.model.specs.Unadjusted.{NoAdjustment, withoutAdjustment, unadjustedReport, unadjustedDemands, WithoutKind10, unadjustedReading, unadjustedFilePage}
+use Rattle.model.specs.Unsigned.{unsignedReport, unsignedDemand}
 
 -- Sheets from a table t with F, E, M, V and X, by document 01's formulas, in which there is no G
 pub record DerivedUnadjusted (t : Table) (a₀ v₀ m₀ d₀ f₀ : Cells) (r : Report) (a v m d f : Cells) : Type 0 where
@@ -109,16 +110,23 @@ pub record Priced (n : ℕ) (d w : Cells) (budget : ℕ) (out₀ work₀ : Cells
   -- document 02, ticket 5, of prices
   pub enough : r .number ≡ 9 → budget < priceBudget
 
--- The demand for domestic goods behind a production y. Demand 2 is `returns` and `inverse`: for a production that rounds have settled it is the demand
--- that they started from, and every production that the call of that name gives is accepted here and gives its demand back. Going back and then
--- forward need not return, which the paper leaves open: what holds is `back`, that the production settled from it is nowhere above y
-pub record Implied (n : ℕ) (d y out₀ : Cells) (r : Report) (out : Cells) : Type 0 where
+-- The demand for domestic goods behind a production y, below 0 in a sector that is short. Demand 2 is `returns` and `inverse`: for a production that
+-- rounds have settled it is the demand that they started from, and every production that the call of that name gives is accepted here and gives its
+-- demand back. Going back and then forward need not return, which the paper leaves open: what holds is `back`, that where no sector is short the
+-- production settled from it is nowhere above y
+pub record Implied (n : ℕ) (d y : Cells) (out₀ : SignedCells) (r : Report) (out : SignedCells) : Type 0 where
   pub answer : r ≡ impliedReport n d y (length out₀ ∷ [])
-  pub outputs : out ≡ output r (length out₀) (impliedDemand n (at n d) y)
+  pub outputs : out ≡ signedOutput r (length out₀) (impliedDemand n (at n d) y)
   pub returns : r .accepted ≡ true → Returns n d y out
   pub back : r .accepted ≡ true → NotAbove n d y out
   pub inverse : (f : Cells) (budget : ℕ) (lent : List ℕ) → productionReport n d f budget lent .accepted ≡ true → y ≡ settled n (at n d) f budget → length out₀ ≡ n
-      → (r ≡ accepts []) × (out ≡ f)
+      → (r ≡ accepts []) × (out ≡ signed f)
+  -- document 02, ticket 8: "Productions accepted before give the demand they gave", by document 01's own call
+  pub asBefore : unsignedReport n d y (length out₀ ∷ []) .accepted ≡ true → (r ≡ accepts []) × (out ≡ signed (unsignedDemand n (at n d) y))
+  -- and unless that call says 10, the answer is its answer
+  pub sameAnswer : (unsignedReport n d y (length out₀ ∷ []) .number ≡ 10 → ⊥) → r ≡ unsignedReport n d y (length out₀ ∷ [])
+  -- "Number 10 stays reserved and no longer occurs"
+  pub reserved : r .number ≡ 10 → ⊥
 
 -- Value added and imports that a production y induces
 pub record Induced (n : ℕ) (a m v F y value₀ imports₀ : Cells) (r : Report) (value imports : Cells) : Type 0 where

@@ -5,7 +5,7 @@ use mathlib.Core.List.{List, [], _∷_, _++_}
 use Prim.Native.Nat.{ℕ, zero, suc, _+_, _*_, _-_, _/_, _%_, _<_}
 use lib.Dec.{eqb, leb, ltb}
 use lib.ListN.{length, set, take, replicate}
-use Rattle.model.specs.Numbers.{Cells, sum, all, tabulateCells, cell, bit, setPositions}
+use Rattle.model.specs.Numbers.{Cells, sum, all, tabulate, cell, bit, setPositions}
 use Rattle.model.specs.Table.{Table, tableOf, sectorLimit, sheetLimit, fewSectors}
 use Rattle.model.specs.Bytes.{Bytes}
 use Rattle.model.specs.declared.TableRead.{TableRead}
@@ -189,7 +189,7 @@ module _ (k n : ℕ) (es : List Entry) where
 
   -- the table that a reading names, with the first k of its columns: of x it has the first n × n cells
   abbrev pub tableNamed : Table
-  tableNamed = tableOf n (take (n * n) (flowsOf n es)) (tabulateCells k cellsRead)
+  tableNamed = tableOf n (take (n * n) (flowsOf n es)) (tabulate k cellsRead)
 
 -- ---- the reader's call
 -- 2. "1,600 cells for x, 40 for each" of seven columns, and 47 work words: by the lengths of the lent slices

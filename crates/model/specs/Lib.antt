@@ -13,4 +13,5 @@ pub mod Text
 pub mod Figures
 pub mod Page
 pub mod Unadjusted
+pub mod Unsigned
 pub mod Contracts

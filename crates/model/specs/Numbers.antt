@@ -1,8 +1,10 @@
--- Sums, lists made by a rule, and matrices. Numbers are whole, 0 or above, without an upper limit; a slice is the list of its cells.
+-- Sums, lists made by a rule, and matrices. Numbers are whole, 0 or above where nothing else is said, without an upper limit; a slice is the list
+-- of its cells.
 use mathlib.Core.Bool.{Bool, true, false, _&&_}
-use mathlib.Core.List.{List, [], _∷_}
+use mathlib.Core.List.{List, [], _∷_, map}
 use Prim.Native.Nat.{ℕ, zero, suc, _+_, _*_, _/_, _%_, _^_, max}
 use lib.Dec.{eqb}
+use lib.IntN.{ℤ, pos}
 use lib.ListN.{getD}
 
 -- the cells of a slice, and a sheet of coefficients by row and column
@@ -11,6 +13,14 @@ Cells = List ℕ
 
 abbrev pub Sheet : Type 0
 Sheet = ℕ → ℕ → ℕ
+
+-- the cells of a slice of signed numbers, which may be below 0: `pos k` is k, and `negsuc k` is -(k + 1)
+abbrev pub SignedCells : Type 0
+SignedCells = List ℤ
+
+-- numbers that are 0 or above, as signed ones
+abbrev pub signed : Cells → SignedCells
+signed = map pos
 
 -- "One", the unit of shares and coefficients: they are whole millionths
 abbrev pub one : ℕ
@@ -36,15 +46,10 @@ abbrev pub all : (ℕ → Bool) → Cells → Bool
 all p [] = true
 all p (x ∷ xs) = p x && all p xs
 
--- f 0, .., f (n - 1)
-abbrev pub tabulate : ℕ → (ℕ → ℕ) → Cells
+-- f 0, .., f (n - 1): numbers, signed numbers, or slices
+abbrev pub tabulate : {A : Type 0} → ℕ → (ℕ → A) → List A
 tabulate zero f = []
 tabulate (suc n) f = f 0 ∷ tabulate n (λ i. f (suc i))
-
--- the same of slices: f 0, .., f (n - 1), each of them cells
-abbrev pub tabulateCells : ℕ → (ℕ → Cells) → List Cells
-tabulateCells zero f = []
-tabulateCells (suc n) f = f 0 ∷ tabulateCells n (λ i. f (suc i))
 
 -- the number at place i of a list; 0 past its end
 abbrev pub cell : Cells → ℕ → ℕ

@@ -4,7 +4,7 @@ use mathlib.Core.Path.{_≡_}
 use mathlib.Core.Logic.{_↔_}
 use Prim.Native.Nat.{ℕ, _+_, _*_, _-_, _≤_, _<_}
 use lib.ListN.{length}
-use Rattle.model.specs.Numbers.{Cells, Sheet, one, sum, cell, at, transposed, columnSum, allCells}
+use Rattle.model.specs.Numbers.{Cells, Sheet, SignedCells, signed, one, sum, cell, at, transposed, columnSum, allCells}
 use Rattle.model.specs.Table.{Table, sectorLimit, portion, column, imports, valueAdded, production, flow, need}
 use Rattle.model.specs.Checks.{columnLimit}
 use Rattle.model.specs.Rounds.{Settles, ExactBalance, shortfall}
@@ -45,12 +45,13 @@ abbrev pub AccuratePrices : (n : ℕ) (d w r : Cells) → Type 0
 AccuratePrices n d w r = (q : ℕ) (b : ℕ → ℕ) → ExactBalance n (transposed (at n d)) w q b → NearPrices n r q b
 
 -- Demand 2, of the demand f behind a production y: going forward and then back returns the demand, of any demand g that settles at y
-abbrev pub Returns : (n : ℕ) (d y f : Cells) → Type 0
-Returns n d y f = (g : Cells) (k : ℕ) → length g ≡ n → Settles n (at n d) g k y → f ≡ g
+abbrev pub Returns : (n : ℕ) (d y : Cells) (f : SignedCells) → Type 0
+Returns n d y f = (g : Cells) (k : ℕ) → length g ≡ n → Settles n (at n d) g k y → f ≡ signed g
 
--- Going back and then forward need not return; what holds is that the production z settled from f is nowhere above y
-abbrev pub NotAbove : (n : ℕ) (d y f : Cells) → Type 0
-NotAbove n d y f = (z : Cells) (k : ℕ) → Settles n (at n d) f k z → (i : ℕ) → i < n → cell z i ≤ cell y i
+-- Going back and then forward need not return; what holds, where f has no sector below 0 and so is a demand g, is that the production z settled from g
+-- is nowhere above y
+abbrev pub NotAbove : (n : ℕ) (d y : Cells) (f : SignedCells) → Type 0
+NotAbove n d y f = (g z : Cells) (k : ℕ) → f ≡ signed g → Settles n (at n d) g k z → (i : ℕ) → i < n → cell z i ≤ cell y i
 
 -- Document 02, ticket 4: two starts, "the second nowhere below the first"
 abbrev pub NowhereBelow : ℕ → Cells → Cells → Type 0

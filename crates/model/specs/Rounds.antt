@@ -5,8 +5,9 @@ use mathlib.Core.Bool.{Bool, true, false, not, _&&_, cond}
 use mathlib.Core.List.{[]}
 use Prim.Native.Nat.{ℕ, zero, suc, _+_, _*_, _-_, _/_, _≤_, _<_, max}
 use lib.Dec.{eqb, ltb}
+use lib.IntN.{subℕ}
 use lib.ListN.{length, take, drop}
-use Rattle.model.specs.Numbers.{Cells, Sheet, one, sum, largest, first, tabulate, cell, same, at, matrix, columnSum, allCells}
+use Rattle.model.specs.Numbers.{Cells, Sheet, SignedCells, one, sum, largest, first, tabulate, cell, same, at, matrix, columnSum, allCells}
 use Rattle.model.specs.Table.{portion, fewSectors}
 
 -- c(i,j) × amount(j)
@@ -59,9 +60,10 @@ pub record ExactBalance (n : ℕ) (c : Sheet) (s : Cells) (q : ℕ) (b : ℕ →
 abbrev pub shortfall : ℕ → (ℕ → ℕ) → Cells → ℕ → ℕ
 shortfall q b y i = b i - q * cell y i
 
--- Backwards: the demand behind a production
-unfoldable pub impliedDemand : ℕ → Sheet → Cells → Cells
-impliedDemand n c y = tabulate n (λ i. cell y i - intermediate n c (cell y) i)
+-- Backwards: the demand behind a production y, "production(i) minus what industry takes". "A signed demand for each sector" (document 02, ticket 8):
+-- below 0 where industry takes more than there is. `subℕ a b` is a - b, below 0 too
+unfoldable pub impliedDemand : ℕ → Sheet → Cells → SignedCells
+impliedDemand n c y = tabulate n (λ i. subℕ (cell y i) (intermediate n c (cell y) i))
 
 -- Induced value added, and induced imports, at a production y
 unfoldable pub inducedValueAdded : (n : ℕ) (v y : Cells) → Cells

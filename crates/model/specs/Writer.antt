@@ -5,7 +5,7 @@ use mathlib.Core.Path.{_≡_}
 use Prim.Native.Nat.{ℕ, suc, _+_, _*_, _≤_, _<_}
 use lib.Dec.{eqb}
 use lib.ListN.{length, take, drop}
-use Rattle.model.specs.Numbers.{Cells, tabulateCells}
+use Rattle.model.specs.Numbers.{Cells, tabulate}
 use Rattle.model.specs.Table.{Table, tableOf, column, sectorLimit, fewSectors}
 use Rattle.model.specs.Bytes.{Bytes, padded}
 use Rattle.model.specs.Checks.{Report, Check, verdict, single, size, lengths, tableAmounts}
@@ -26,11 +26,11 @@ wordsEntries word (s ∷ ss) = wordEntries word 0 s ++ wordsEntries (word + 1) s
 
 -- the rows of x: "row i of x starts at cell i × n"
 abbrev pub rows : (n : ℕ) → Cells → List Cells
-rows n x = tabulateCells n (λ i. take n (drop (i * n) x))
+rows n x = tabulate n (λ i. take n (drop (i * n) x))
 
 -- the columns in the order of their kinds: G is "written after the rises"
 abbrev pub columnsByKind : Table → List Cells
-columnsByKind t = tabulateCells (length columnKinds) (λ k. column t (kindPlace k))
+columnsByKind t = tabulate (length columnKinds) (λ k. column t (kindPlace k))
 
 -- "cells in ascending kind, row and column, zeros left out": the rows of x, then the columns
 unfoldable pub tableEntries : Table → List Entry

@@ -12,6 +12,7 @@ use shares::share_of;
 use test_show::show_answer;
 use test_show::show_end;
 use test_show::show_first;
+use test_show::show_first_signed;
 use test_show::show_outcome;
 use test_show::show_slices;
 use test_show::show_three;
@@ -117,10 +118,10 @@ fn induce_inside(name: &[u8], a: [u64; 9], v: [u64; 3], m: [u64; 3], d: [u64; 9]
 
 // The demand for domestic goods behind a production.
 fn imply(d: [u64; 9], y: [u64; 3]) {
-    let mut f = [7u64; 3];
+    let mut f = [7i64; 3];
     show_word(b"demand behind production");
     show_answer(implied_demand(3, &d, &y, &mut f));
-    show_first(&f);
+    show_first_signed(&f);
     show_end();
 }
 

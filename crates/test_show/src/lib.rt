@@ -67,6 +67,30 @@ pub fn show_cells(cells: &[u64]) {
     }
 }
 
+// How far a number below 0 is from 0; 0 for any other.
+fn below_zero(cell: i64) -> u64 {
+    if cell < 0 {
+        return (-1 - cell) as u64 + 1;
+    }
+    0
+}
+
+// A signed cell, with `-` before one that is below 0.
+fn show_signed_cell(cell: i64) {
+    if cell < 0 {
+        show_word(b" -");
+        print_decimal(STDOUT_FILENO, below_zero(cell));
+        return;
+    }
+    show_cell(cell as u64);
+}
+
+fn show_signed_cells(cells: &[i64]) {
+    for i in 0..cells.len() {
+        show_signed_cell(cells[i]);
+    }
+}
+
 fn show_byte(byte: u8) {
     show_cell(byte as u64);
 }
@@ -108,6 +132,17 @@ pub fn show_first(cells: &[u64]) {
 pub fn show_more(cells: &[u64]) {
     show_word(b" |");
     show_cells(cells);
+}
+
+// The same of signed cells.
+pub fn show_first_signed(cells: &[i64]) {
+    show_word(b":");
+    show_signed_cells(cells);
+}
+
+pub fn show_more_signed(cells: &[i64]) {
+    show_word(b" |");
+    show_signed_cells(cells);
 }
 
 pub fn show_end() {

@@ -12,24 +12,102 @@ use borrow.Author.Tests.{leb-true, eqb-true, eq-eqb}
 use lib.Dec.{eqb, leb}
 use lib.ListN.{length, getD, set, take, drop, replicate, length-set, length-replicate, getD-replicate, List·getD-eq-default}
 use lib.Seq.{ext-getD, getD-set-same, getD-set-other}
-use Rattle.model.specs.Numbers.{first, all, tabulate, tabulateCells, cell, same}
+use Rattle.model.specs.Numbers.{first, all, tabulate, cell, same}
 use Rattle.model.specs.Promises.{Equal}
 use Rattle.theory.specs.Slices.{Each}
 use Rattle.theory.proofs.Sums.{upto}
 
--- ---- a list that is written from the front
--- l has f k at each k below i
+-- ---- lists of cells of any type: those that are made by a rule, and those that are written from the front
+pub length-tabulate : {A : Type 0} (n : ℕ) (f : ℕ → A) → length (tabulate n f) ≡ n
+length-tabulate zero f = refl
+length-tabulate (suc n) f = ap suc (length-tabulate n (λ k. f (suc k)))
+
+-- `none` is what is read past the end of a list
+module _ {A : Type 0} (none : A) where
+  pub made-tabulate : (n : ℕ) (f : ℕ → A) (k : ℕ) → k < n → getD (tabulate n f) k none ≡ f k
+  made-tabulate zero f k h = absurd (not-suc-le-zero h)
+  made-tabulate (suc n) f zero h = refl
+  made-tabulate (suc n) f (suc k) h = made-tabulate n (λ j. f (suc j)) k (le-of-suc-le-suc h)
+
+  -- l has f k at each k below i
+  abbrev pub AgreeOf : List A → ℕ → (ℕ → A) → Type 0
+  AgreeOf l i f = (k : ℕ) → k < i → getD l k none ≡ f k
+
+  pub agree-none-of : (l : List A) (f : ℕ → A) → AgreeOf l 0 f
+  agree-none-of l f k h = absurd (not-suc-le-zero h)
+
+  pub agree-set-of : (l : List A) (i : ℕ) (f : ℕ → A) (v : A) → i < length l → v ≡ f i → AgreeOf l i f → AgreeOf (set l i v) (i + 1) f
+  agree-set-of l i f v h e before =
+      below-more (λ k. getD (set l i v) k none ≡ f k) i
+      (λ k lt. getD-set-other l i k v none (ne-of-lt lt) ∙ before k lt)
+      (getD-set-same l i v none h ∙ e)
+
+  -- a list of n cells that agrees with another list of n cells at all of them is that list
+  pub agreed-of : (n i : ℕ) (l m : List A) → length l ≡ n → length m ≡ n → n ≤ i → AgreeOf l i (λ k. getD m k none) → l ≡ m
+  agreed-of n i l m e f h p = ext-getD none l m (e ∙ sym f) (λ k lt. p k (omega arith))
+
+  pub tabulated-of : (n i : ℕ) (f : ℕ → A) (l : List A) → length l ≡ n → n ≤ i → AgreeOf l i f → l ≡ tabulate n f
+  tabulated-of n i f l e h p =
+      agreed-of n n l (tabulate n f) e (length-tabulate n f) (le-refl n)
+      (λ k lt. p k (lt-of-lt-of-le lt h) ∙ sym (made-tabulate n f k lt))
+
+  pub filled-of : (n i : ℕ) (l : List A) → length l ≡ n → n ≤ i → AgreeOf l i (λ _. none) → l ≡ replicate n none
+  filled-of n i l e h p =
+      agreed-of n n l (replicate n none) e (length-replicate n none) (le-refl n)
+      (λ k lt. p k (lt-of-lt-of-le lt h) ∙ sym (getD-replicate n k none none lt))
+
+  pub tabulate-cong-of : (n : ℕ) {f g : ℕ → A} → ((k : ℕ) → k < n → f k ≡ g k) → tabulate n f ≡ tabulate n g
+  tabulate-cong-of n {f} {g} p = tabulated-of n n g (tabulate n f) (length-tabulate n f) (le-refl n) (λ k h. made-tabulate n f k h ∙ p k h)
+
+  -- a loop that fills a list of n cells from the front with f, from i = 0
+  pub record FrontOf (n : ℕ) (f : ℕ → A) (l : List A) (i : ℕ) : Type 0 where
+    pub within : i ≤ n
+    pub whole : length l ≡ n
+    pub agree : AgreeOf l i f
+
+-- nothing yet, one cell more, and the end: of any f, and of one that is `none` everywhere
+module _ {A : Type 0} {none : A} {n : ℕ} {f : ℕ → A} {l : List A} where
+  pub front-none : length l ≡ n → FrontOf none n f l 0
+  front-none e = record { within = zero-le; whole = e; agree = agree-none-of none l f }
+
+  pub front-set : {i : ℕ} {v : A} → FrontOf none n f l i → i < n → v ≡ f i → FrontOf none n f (set l i v) (i + 1)
+  front-set {i} {v} p h e =
+      let w = p .whole in
+      record { within = omega arith; whole = simp length-set w; agree = agree-set-of none l i f v (omega arith) e (p .agree) }
+
+  pub front-done : {i : ℕ} → FrontOf none n f l i → n ≤ i → l ≡ tabulate n f
+  front-done {i} p h = tabulated-of none n i f l (p .whole) h (p .agree)
+
+pub front-filled : {A : Type 0} {none : A} {n : ℕ} {l : List A} {i : ℕ} → FrontOf none n (λ _. none) l i → n ≤ i → l ≡ replicate n none
+front-filled {none = none} {n} {l} {i} p h = filled-of none n i l (p .whole) h (p .agree)
+
+-- ---- the same of numbers, which are 0 past the end
 abbrev pub Agree : List ℕ → ℕ → (ℕ → ℕ) → Type 0
-Agree l i f = (k : ℕ) → k < i → cell l k ≡ f k
+Agree = AgreeOf 0
+
+abbrev pub Front : (n : ℕ) (f : ℕ → ℕ) (l : List ℕ) (i : ℕ) → Type 0
+Front = FrontOf 0
 
 pub agree-none : (l : List ℕ) (f : ℕ → ℕ) → Agree l 0 f
-agree-none l f k h = absurd (not-suc-le-zero h)
+agree-none = agree-none-of 0
 
 pub agree-set : (l : List ℕ) (i : ℕ) (f : ℕ → ℕ) (v : ℕ) → i < length l → v ≡ f i → Agree l i f → Agree (set l i v) (i + 1) f
-agree-set l i f v h e before =
-    below-more (λ k. cell (set l i v) k ≡ f k) i
-    (λ k lt. getD-set-other l i k v 0 (ne-of-lt lt) ∙ before k lt)
-    (getD-set-same l i v 0 h ∙ e)
+agree-set = agree-set-of 0
+
+pub cell-tabulate : (n : ℕ) (f : ℕ → ℕ) (k : ℕ) → k < n → cell (tabulate n f) k ≡ f k
+cell-tabulate = made-tabulate 0
+
+pub agreed : (n i : ℕ) (l m : List ℕ) → length l ≡ n → length m ≡ n → n ≤ i → Agree l i (cell m) → l ≡ m
+agreed = agreed-of 0
+
+pub tabulated : (n i : ℕ) (f : ℕ → ℕ) (l : List ℕ) → length l ≡ n → n ≤ i → Agree l i f → l ≡ tabulate n f
+tabulated = tabulated-of 0
+
+pub tabulate-cong : (n : ℕ) {f g : ℕ → ℕ} → ((k : ℕ) → k < n → f k ≡ g k) → tabulate n f ≡ tabulate n g
+tabulate-cong = tabulate-cong-of 0
+
+pub zeroed : (n i : ℕ) (l : List ℕ) → length l ≡ n → n ≤ i → Agree l i (λ _. 0) → l ≡ replicate n 0
+zeroed = filled-of 0
 
 -- ---- a list that is written over from the front
 -- the first i cells are those of f, the others still those of m
@@ -42,60 +120,6 @@ over-none l f = (agree-none l f, λ k h. refl)
 pub over-set : (l : List ℕ) (i : ℕ) (f : ℕ → ℕ) (m : List ℕ) (v : ℕ) → i < length l → v ≡ f i → Over l i f m → Over (set l i v) (i + 1) f m
 over-set l i f m v h e (before, rest) =
     (agree-set l i f v h e before, λ k g. let lt : i < k = omega arith in getD-set-other l i k v 0 (λ p. ne-of-lt lt (sym p)) ∙ rest k (omega arith))
-
-pub length-tabulate : (n : ℕ) (f : ℕ → ℕ) → length (tabulate n f) ≡ n
-length-tabulate zero f = refl
-length-tabulate (suc n) f = ap suc (length-tabulate n (λ k. f (suc k)))
-
-pub cell-tabulate : (n : ℕ) (f : ℕ → ℕ) (k : ℕ) → k < n → cell (tabulate n f) k ≡ f k
-cell-tabulate zero f k h = absurd (not-suc-le-zero h)
-cell-tabulate (suc n) f zero h = refl
-cell-tabulate (suc n) f (suc k) h = cell-tabulate n (λ j. f (suc j)) k (le-of-suc-le-suc h)
-
--- slices made by a rule
-pub count-slices : (k : ℕ) (f : ℕ → List ℕ) → length (tabulateCells k f) ≡ k
-count-slices zero f = refl
-count-slices (suc k) f = ap suc (count-slices k (λ i. f (suc i)))
-
-pub slice-made : (k : ℕ) (f : ℕ → List ℕ) (i : ℕ) → i < k → getD (tabulateCells k f) i [] ≡ f i
-slice-made zero f i h = absurd (not-suc-le-zero h)
-slice-made (suc k) f zero h = refl
-slice-made (suc k) f (suc i) h = slice-made k (λ j. f (suc j)) i (le-of-suc-le-suc h)
-
--- a list of n cells that agrees with another list of n cells at all of them is that list
-pub agreed : (n i : ℕ) (l m : List ℕ) → length l ≡ n → length m ≡ n → n ≤ i → Agree l i (cell m) → l ≡ m
-agreed n i l m e f h p = ext-getD 0 l m (e ∙ sym f) (λ k lt. p k (omega arith))
-
-pub tabulated : (n i : ℕ) (f : ℕ → ℕ) (l : List ℕ) → length l ≡ n → n ≤ i → Agree l i f → l ≡ tabulate n f
-tabulated n i f l e h p =
-    agreed n n l (tabulate n f) e (length-tabulate n f) (le-refl n)
-    (λ k lt. p k (lt-of-lt-of-le lt h) ∙ sym (cell-tabulate n f k lt))
-
-pub tabulate-cong : (n : ℕ) {f g : ℕ → ℕ} → ((k : ℕ) → k < n → f k ≡ g k) → tabulate n f ≡ tabulate n g
-tabulate-cong n {f} {g} p = tabulated n n g (tabulate n f) (length-tabulate n f) (le-refl n) (λ k h. cell-tabulate n f k h ∙ p k h)
-
-pub zeroed : (n i : ℕ) (l : List ℕ) → length l ≡ n → n ≤ i → Agree l i (λ _. 0) → l ≡ replicate n 0
-zeroed n i l e h p =
-    agreed n n l (replicate n 0) e (length-replicate n 0) (le-refl n)
-    (λ k lt. p k (lt-of-lt-of-le lt h) ∙ sym (getD-replicate n k 0 0 lt))
-
--- ---- a loop that fills a list of n cells from the front with f, from i = 0: nothing yet, one cell more, and the end
-pub record Front (n : ℕ) (f : ℕ → ℕ) (l : List ℕ) (i : ℕ) : Type 0 where
-  pub within : i ≤ n
-  pub whole : length l ≡ n
-  pub agree : Agree l i f
-
-module _ {n : ℕ} {f : ℕ → ℕ} {l : List ℕ} where
-  pub front-none : length l ≡ n → Front n f l 0
-  front-none e = record { within = zero-le; whole = e; agree = agree-none l f }
-
-  pub front-set : {i v : ℕ} → Front n f l i → i < n → v ≡ f i → Front n f (set l i v) (i + 1)
-  front-set {i} {v} p h e =
-      let w = p .whole in
-      record { within = omega arith; whole = simp length-set w; agree = agree-set l i f v (omega arith) e (p .agree) }
-
-  pub front-done : {i : ℕ} → Front n f l i → n ≤ i → l ≡ tabulate n f
-  front-done {i} p h = tabulated n i f l (p .whole) h (p .agree)
 
 -- ---- the first place below n at which a test fails
 -- the test passes at every place below i

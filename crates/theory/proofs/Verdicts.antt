@@ -11,7 +11,7 @@ use lib.Dec.{ltb, eqb}
 use lib.ListN.{length, replicate}
 use Rattle.model.specs.Numbers.{sum, first, all, at, transposed}
 use Rattle.model.specs.Table.{sectorLimit}
-use Rattle.model.specs.Checks.{Report, Check, accepts, refuses, report, roundsOf, verdict, output, each, single, size, lengths, bounded, countedOn, columnLimit}
+use Rattle.model.specs.Checks.{Report, Check, accepts, refuses, report, roundsOf, verdict, output, outputOf, each, single, size, lengths, bounded, countedOn, columnLimit}
 use Rattle.model.specs.Calls.{matrixChecks}
 use Rattle.model.specs.declared.Answer.{Answer}
 use Rattle.model.specs.declared.Answer.the-variants.{Accepted, Refused}
@@ -85,8 +85,11 @@ pub counted-first : (limit : ℕ) (s : List ℕ) (qs : List Check) → bounded 3
 counted-first limit s qs = ap (λ (place : ℕ). bounded 3 0 limit s ∷ countedOn place qs) (sym (zero-add (length s)))
 
 -- an accepted call's output is its result
+pub output-given-of : {A : Type 0} (none : A) (r : Report) (len : ℕ) (y : List A) → r .accepted ≡ true → outputOf none r len y ≡ y
+output-given-of none r len y e = rw e
+
 pub output-given : (r : Report) (len : ℕ) (y : List ℕ) → r .accepted ≡ true → output r len y ≡ y
-output-given r len y e = rw e
+output-given = output-given-of 0
 
 -- what is left in an output slice, by its length and by the result where the call accepts: where it refuses, no result matters
 pub output-from : (r : Report) {len lent : ℕ} {y z : List ℕ} → len ≡ lent → (r .accepted ≡ true → y ≡ z) → output r len y ≡ output r lent z
@@ -188,6 +191,12 @@ not-told k ps qs ks e some h z =
     ap (λ (l : List Check). verdict (ps ++ l) ks) (sym (append-nil qs)) ∙ unasked ps qs [] ks h ∙ ap (λ (l : List Check). verdict l ks) (append-nil ps) in
     let other = number-passes (λ q. not (eqb q k)) ps ks e (ap not (ne-eqb 0 k (λ z. omega arith))) in
     true≢false (sym other ∙ ap not (eq-eqb n k (sym (ap (λ (r : Report). r .number) same) ∙ z)))
+
+-- a last check, unless its number is told, need not be asked
+pub unless-told : (ps : List Check) (q : Check) (ks : List ℕ) → (verdict (ps ++ (q ∷ [])) ks .number ≡ q .number → ⊥) → verdict ps ks ≡ verdict (ps ++ (q ∷ [])) ks
+unless-told [] q ks = asked (λ r. (r .number ≡ q .number → ⊥) → accepts ks ≡ r) q [] ks (λ _ other. absurd (other refl)) (λ _ _. refl)
+unless-told (p ∷ ps) q ks =
+    asked-both (λ r s. (s .number ≡ q .number → ⊥) → r ≡ s) p ps (ps ++ (q ∷ [])) ks ks (λ _ _. refl) (λ _. unless-told ps q ks)
 
 -- a call that has asked some checks and was answered a: where they refuse it is done, where they accept it goes on with the others
 module _ (ps : List Check) {a : Answer} (said : report a ≡ verdict ps []) where

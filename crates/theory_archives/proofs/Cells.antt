@@ -14,7 +14,7 @@ use Rattle.model.specs.Table.{sectorLimit}
 use Rattle.model.specs.File.{Entry, Within, wordLimit}
 use Rattle.model.specs.Writer.{wordEntries, wordsEntries, rows, order, Ascending}
 use Rattle.theory.specs.Slices.{Columns}
-use Rattle.theory.proofs.Lists.{count-slices, slice-made, cell-zeros}
+use Rattle.theory.proofs.Lists.{length-tabulate, made-tabulate, cell-zeros}
 use Rattle.theory_files.proofs.Encoding.{made}
 use Rattle.theory_files.proofs.Readings.{AllWithin, Distinct}
 use Rattle.theory_archives.proofs.Ascending.{amountAt, amount-append, amount-here, amount-other, order-once, from-lower, unnamed}
@@ -115,10 +115,10 @@ module _ (n : ℕ) (few : n ≤ sectorLimit) where
 -- ---- the rows of x
 module _ (n : ℕ) (x : List ℕ) where
   pub rows-count : length (rows n x) ≡ n
-  rows-count = count-slices n (λ i. take n (drop (i * n) x))
+  rows-count = length-tabulate n (λ i. take n (drop (i * n) x))
 
   pub row-is : (i : ℕ) → i < n → getD (rows n x) i [] ≡ take n (drop (i * n) x)
-  row-is i h = slice-made n (λ i. take n (drop (i * n) x)) i h
+  row-is i h = made-tabulate [] n (λ i. take n (drop (i * n) x)) i h
 
   pub rows-columns : length x ≡ n * n → Columns n (rows n x)
   rows-columns e i h =

@@ -14,7 +14,7 @@ use Rattle.model.specs.Table.{Table, tableOf, column, sectorLimit, sheetLimit}
 use Rattle.model.specs.File.{Entry, Within, columnKinds, kindPlace, columnWord, flowsOf, columnOf, tableNamed}
 use Rattle.model.specs.Writer.{rows, wordsEntries, columnsByKind, tableEntries, order, Ascending}
 use Rattle.theory.specs.Slices.{Columns}
-use Rattle.theory.proofs.Lists.{slice-made}
+use Rattle.theory.proofs.Lists.{made-tabulate}
 use Rattle.theory.proofs.Matrices.{place-once, place-row, place-column, place-cell}
 use Rattle.theory.proofs.Sums.{cell-in}
 use Rattle.theory_tables.specs.Tables.{TableSizes}
@@ -53,7 +53,7 @@ module _ (t : Table) (f : Fit t) where
 
   -- the columns in the order of their kinds
   pub by-kind : (k : ℕ) → k < length columnKinds → getD (columnsByKind t) k [] ≡ column t (kindPlace k)
-  by-kind = slice-made (length columnKinds) (λ k. column t (kindPlace k))
+  by-kind = made-tabulate [] (length columnKinds) (λ k. column t (kindPlace k))
 
   pub by-kind-long : Columns n (columnsByKind t)
   by-kind-long k h = ap length (by-kind k h) ∙ f .sizes .columns (kindPlace k) (subst (λ (m : ℕ). kindPlace k < m) (sym (f .count)) (place-back k h .0))
@@ -103,7 +103,7 @@ module _ (t : Table) (f : Fit t) where
 -- ---- what the reader returns of named cells
 -- column c of a reading, of those that it has
 column-named : (k n : ℕ) (es : List Entry) (c : ℕ) → c < k → column (tableNamed k n es) c ≡ take n (columnOf (columnWord c) es)
-column-named k n es c h = slice-made k (λ c. take n (columnOf (columnWord c) es)) c h
+column-named k n es c h = made-tabulate [] k (λ c. take n (columnOf (columnWord c) es)) c h
 
 module _ (n : ℕ) (some : 1 ≤ n) (few : n ≤ sectorLimit) where
   square : n * n ≤ sheetLimit

@@ -11,9 +11,9 @@ use lib.Dec.{leb}
 use lib.ListN.{length, replicate}
 use Rattle.model.specs.Numbers.{one, sum, cell, at}
 use Rattle.model.specs.Table.{sectorLimit}
-use Rattle.model.specs.Rounds.{intermediate, changes, settling, settled, Settles}
-use Rattle.model.specs.Checks.{Report, Check, accepts, refuses, report, roundsOf, output, verdict, size, lengths, amountLimit, inducedAmounts, bounded, productionLimit, productionTotal, demandLeft, single, settles}
-use Rattle.model.specs.Calls.{matrixChecks, settlingChecks, settlingReport, impliedReport, inducedReport}
+use Rattle.model.specs.Rounds.{changes, settling, settled, Settles}
+use Rattle.model.specs.Checks.{Report, Check, accepts, refuses, report, roundsOf, output, verdict, size, lengths, amountLimit, inducedAmounts, bounded, productionLimit, productionTotal, single, settles}
+use Rattle.model.specs.Calls.{matrixChecks, settlingChecks, settlingReport, impliedChecks, impliedReport, inducedReport}
 use Rattle.model.specs.Promises.{AcceptedMatrix}
 use Rattle.model.specs.declared.Answer.{Answer}
 use Rattle.model.specs.declared.Answer.the-variants.{Accepted, Refused}
@@ -69,21 +69,16 @@ pub record Given (n : ℕ) (d y lent : List ℕ) : Type 0 where
   pub slices : Each n lent
   pub total : sum n (cell y) ≤ productionLimit
 
-pub given : (n : ℕ) (d y lent : List ℕ) → AllPass (matrixChecks n d [] (length y ∷ lent) ++ (productionTotal n y ∷ [])) → Given n d y lent
+pub given : (n : ℕ) (d y lent : List ℕ) → AllPass (impliedChecks n d y lent) → Given n d y lent
 given n d y lent p =
     let r = all-pass-parts (matrixChecks n d [] (length y ∷ lent)) (productionTotal n y ∷ []) p in
     let m = accepted-matrix n d [] (length y ∷ lent) (r .0) in
     record { matrix = m .0; cells = m .1 .0; slices = m .1 .1; total = whole-total n y (r .1 .0) }
 
--- and an accepted call of implied demand: question 10 too
-pub accepted-implied : (n : ℕ) (d y lent : List ℕ) → impliedReport n d y lent .accepted ≡ true
-    → Given n d y lent × ((i : ℕ) → i < n → intermediate n (at n d) (cell y) i ≤ cell y i)
+-- that is, of an accepted call of implied demand
+pub accepted-implied : (n : ℕ) (d y lent : List ℕ) → impliedReport n d y lent .accepted ≡ true → Given n d y lent
 unfolding impliedReport
-accepted-implied n d y lent a =
-    let before = matrixChecks n d [] (length y ∷ lent) ++ (productionTotal n y ∷ []) in
-    let tenth = demandLeft n (at n d) y ∷ [] in
-    let r = all-pass-parts before tenth (accepted-all (before ++ tenth) [] a) in
-    (given n d y lent (r .0), λ i h. leb-true (intermediate n (at n d) (cell y) i) (cell y i) (r .1 .0 i h))
+accepted-implied n d y lent a = given n d y lent (accepted-all (impliedChecks n d y lent) [] a)
 
 module _ (n : ℕ) (d : List ℕ) (c : ℕ → ℕ → ℕ) (limit : ℕ) (s : List ℕ) (budget : ℕ) where
   -- an accepted call: what its checks say, and that the rounds settle at what it gives

@@ -1,27 +1,30 @@
 -- What the papers promise of an accepted domestic matrix. Production goes along its rows, by the total; prices down its columns, by the
 -- largest; each is an instance of one law over a gauge. Assumes nothing.
 use mathlib.Core.Path.{_≡_, refl, sym, ap, _∙_}
-use mathlib.Core.Bool.{Bool, true, false}
-use mathlib.Core.List.{List, [], _∷_}
+use mathlib.Core.Bool.{Bool, true, false, not, true≢false}
+use mathlib.Core.List.{List, [], _∷_, _++_}
 use Prim.Native.Nat.{ℕ, suc, _*_, _≤_, _<_}
 use native.Mathlib.Omega.{arith}
 use native.Mathlib.Nat.{le-refl, le-trans}
-use borrow.Author.Tests.{le-leb, eq-eqb}
+use borrow.Author.Tests.{le-leb, leb-true, eq-eqb}
+use lib.Dec.{eqb}
+use lib.IntN.{ℤ, pos}
 use lib.ListN.{length}
-use Rattle.model.specs.Numbers.{sum, largest, at, cell, transposed, oriented}
+use Rattle.model.specs.Numbers.{signed, sum, largest, at, cell, transposed, oriented}
 use Rattle.model.specs.Table.{sectorLimit}
 use Rattle.model.specs.Rounds.{weighted, intermediate, rounds, Settles, shortfall, settling, settled, impliedDemand}
-use Rattle.model.specs.Checks.{Report, accepts, output, demandLimit, productionLimit, productionTotal, demandLeft}
-use Rattle.model.specs.Calls.{matrixChecks, productionReport, impliedReport}
+use Rattle.model.specs.Checks.{Report, accepts, verdict, signedOutput, demandLimit, productionLimit, productionTotal}
+use Rattle.model.specs.Calls.{matrixChecks, productionReport, impliedChecks, impliedReport}
 use Rattle.model.specs.Promises.{AcceptedMatrix, Distinguishes, Accurate, AccuratePrices, Returns, NotAbove}
 use Rattle.model.specs.Contracts.{Implied}
+use Rattle.model.specs.Unsigned.{demandLeft, unsignedReport, unsignedDemand}
 use Rattle.theory_rounds.specs.Bounds.{sumLimit}
 use Rattle.theory.proofs.Sums.{sum-most, sum-part, sum-cell, largest-le, largest-cell}
 use Rattle.theory_rounds.proofs.Gauge.{total-gauge, largest-gauge}
-use Rattle.theory_rounds.proofs.Rounds.{equal-starts, settles-fixed, settles-length, lowest, implied-cell, forward-back}
+use Rattle.theory_rounds.proofs.Rounds.{equal-starts, settles-length, lowest, implied-fixed, forward-back, unsigned-implied}
 use Rattle.theory_rounds.proofs.Accuracy.{not-above, lacks-less, rounds-bounded, weighted-bounded}
-use Rattle.theory.proofs.Verdicts.{output-given, pass-on, matrix-accepted}
-use Rattle.theory_rounds.proofs.Answers.{Started, accepted-settled, accepted-implied}
+use Rattle.theory.proofs.Verdicts.{accepted-all, all-accepted, all-pass-parts, number-passes, output-given-of, pass-on, matrix-accepted, unless-told}
+use Rattle.theory_rounds.proofs.Answers.{Started, accepted-settled}
 
 module _ {n : ℕ} {d : List ℕ} (A : AcceptedMatrix n d) where
   -- Demand 3, first half: equal productions exactly from equal demands, whatever the demands
@@ -86,21 +89,18 @@ module _ {n : ℕ} {d : List ℕ} (A : AcceptedMatrix n d) where
 pub returns : (n : ℕ) (d y : List ℕ) → Returns n d y (impliedDemand n (at n d) y)
 returns n d y g k e σ = forward-back n (at n d) e σ
 
--- and what it settles at is nowhere above the production, if industry takes no more than there is
-pub not-above-given : (n : ℕ) (d y : List ℕ) → ((i : ℕ) → i < n → intermediate n (at n d) (cell y) i ≤ cell y i)
-    → NotAbove n d y (impliedDemand n (at n d) y)
-not-above-given n d y p z k σ =
-    lowest n (at n d) σ (cell y) (λ i h. omega (arith, p i h, implied-cell n (at n d) y i h))
+-- and what it settles at, where no sector is short, is nowhere above the production
+pub not-above-given : (n : ℕ) (d y : List ℕ) → NotAbove n d y (impliedDemand n (at n d) y)
+not-above-given n d y g z k e σ = lowest n (at n d) σ (cell y) (λ i h. omega (arith, implied-fixed n (at n d) y g e i h))
 
 -- Demand 2: where production is accepted, going back from what it gives is accepted too, and returns the demand
 pub forward-then-back : (n : ℕ) (d f : List ℕ) (budget : ℕ) (lent : List ℕ) → productionReport n d f budget lent .accepted ≡ true
-    → (impliedReport n d (settled n (at n d) f budget) (n ∷ []) ≡ accepts []) × (impliedDemand n (at n d) (settled n (at n d) f budget) ≡ f)
+    → (impliedReport n d (settled n (at n d) f budget) (n ∷ []) ≡ accepts []) × (impliedDemand n (at n d) (settled n (at n d) f budget) ≡ signed f)
 unfolding productionReport impliedReport
 forward-then-back n d f budget lent a = (
-  pass-on (matrixChecks n d [] (length y ∷ n ∷ [])) (productionTotal n y ∷ demandLeft n (at n d) y ∷ []) []
+  pass-on (matrixChecks n d [] (length y ∷ n ∷ [])) (productionTotal n y ∷ []) []
       (matrix-accepted n d [] (length y ∷ n ∷ []) (s .matrix) refl (rw (eq-eqb n (length y) (sym (settles-length n (at n d) (s .start) σ)), eq-eqb n n refl)))
-      ∙ pass-on (productionTotal n y ∷ demandLeft n (at n d) y ∷ []) [] []
-      (λ i h. le-leb _ _ (le-trans (sum-part (suc i) n (cell y) h) total), (λ i h. le-leb _ _ (left i h), tt)),
+      ∙ all-accepted (productionTotal n y ∷ []) [] (λ i h. le-leb _ _ (le-trans (sum-part (suc i) n (cell y) h) total), tt),
   returns n d y f (settling n (at n d) f budget) (s .start) σ,
 )
   where
@@ -116,30 +116,46 @@ forward-then-back n d f budget lent a = (
     total : sum n (cell y) ≤ productionLimit
     total = settled-total (s .matrix) f (s .small) budget
 
-    left : (i : ℕ) → i < n → intermediate n (at n d) (cell y) i ≤ cell y i
-    left i h = omega (arith, settles-fixed n (at n d) σ i h)
+-- Document 02, ticket 8: a production that document 01's call accepts is accepted, with the demand that it gave
+pub accepted-before : (n : ℕ) (d y lent : List ℕ) → unsignedReport n d y lent .accepted ≡ true
+    → (impliedReport n d y lent ≡ accepts []) × (impliedDemand n (at n d) y ≡ signed (unsignedDemand n (at n d) y))
+unfolding unsignedReport impliedReport
+accepted-before n d y lent a =
+    let asked = impliedChecks n d y lent in
+    let tenth = demandLeft n (at n d) y ∷ [] in
+    let p = all-pass-parts asked tenth (accepted-all (asked ++ tenth) [] a) in (
+      all-accepted asked [] (p .0),
+      unsigned-implied n (at n d) y (λ i h. leb-true (intermediate n (at n d) (cell y) i) (cell y i) (p .1 .0 i h)),
+    )
+
+-- unless that call says 10 the answers are the same
+pub same-answer : (n : ℕ) (d y lent : List ℕ) → (unsignedReport n d y lent .number ≡ 10 → ⊥) → impliedReport n d y lent ≡ unsignedReport n d y lent
+unfolding unsignedReport impliedReport
+same-answer n d y lent = unless-told (impliedChecks n d y lent) (demandLeft n (at n d) y) []
+
+-- and 10 does not occur
+pub never-ten : (n : ℕ) (d y lent : List ℕ) → impliedReport n d y lent .number ≡ 10 → ⊥
+unfolding impliedReport
+never-ten n d y lent e =
+    true≢false (sym (number-passes (λ k. not (eqb k 10)) (impliedChecks n d y lent) [] refl refl) ∙ ap (λ (k : ℕ). not (eqb k 10)) e)
 
 -- a call of implied demand that answers and leaves what the definitions say keeps these promises
-pub implied : (n : ℕ) (d y out₀ : List ℕ) {r : Report} {out : List ℕ}
-    → r ≡ impliedReport n d y (length out₀ ∷ []) → out ≡ output r (length out₀) (impliedDemand n (at n d) y) → Implied n d y out₀ r out
+pub implied : (n : ℕ) (d y : List ℕ) (out₀ : List ℤ) {r : Report} {out : List ℤ}
+    → r ≡ impliedReport n d y (length out₀ ∷ []) → out ≡ signedOutput r (length out₀) (impliedDemand n (at n d) y) → Implied n d y out₀ r out
 implied n d y out₀ {r} {out} e o =
     record {
       answer = e;
       outputs = o;
       returns = λ a. rw (result a) (returns n d y);
-      back = λ a. rw (result a) (not-above-given n d y (left a));
-      inverse = λ f budget lent a h l. again f budget lent a h l;
+      back = λ a. rw (result a) (not-above-given n d y);
+      inverse = λ f budget lent a h l. let p = forward-then-back n d f budget lent a in gives f (rw (h, l) (p .0)) (rw h (p .1));
+      asBefore = λ a. let p = accepted-before n d y (length out₀ ∷ []) a in gives (unsignedDemand n (at n d) y) (p .0) (p .1);
+      sameAnswer = λ other. e ∙ same-answer n d y (length out₀ ∷ []) other;
+      reserved = λ ten. never-ten n d y (length out₀ ∷ []) (ap (λ (r : Report). r .number) (sym e) ∙ ten);
     }
   where
     result : r .accepted ≡ true → out ≡ impliedDemand n (at n d) y
-    result a = o ∙ output-given r (length out₀) (impliedDemand n (at n d) y) a
+    result a = o ∙ output-given-of (pos 0) r (length out₀) (impliedDemand n (at n d) y) a
 
-    left : r .accepted ≡ true → (i : ℕ) → i < n → intermediate n (at n d) (cell y) i ≤ cell y i
-    left a = accepted-implied n d y (length out₀ ∷ []) (ap (λ (r : Report). r .accepted) (sym e) ∙ a) .1
-
-    again : (f : List ℕ) (budget : ℕ) (lent : List ℕ) → productionReport n d f budget lent .accepted ≡ true → y ≡ settled n (at n d) f budget → length out₀ ≡ n
-        → (r ≡ accepts []) × (out ≡ f)
-    again f budget lent a h l =
-        let p = forward-then-back n d f budget lent a in
-        let t : r ≡ accepts [] = e ∙ rw (h, l) (p .0) in
-        (t, result (ap (λ (r : Report). r .accepted) t) ∙ rw h (p .1))
+    gives : (f : List ℕ) → impliedReport n d y (length out₀ ∷ []) ≡ accepts [] → impliedDemand n (at n d) y ≡ signed f → (r ≡ accepts []) × (out ≡ signed f)
+    gives f said is = (e ∙ said, result (ap (λ (r : Report). r .accepted) (e ∙ said)) ∙ is)

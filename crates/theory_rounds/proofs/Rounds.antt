@@ -9,12 +9,15 @@ use native.Mathlib.Omega.{arith}
 use native.Mathlib.Nat.{le-refl, le-trans, le-of-eq, le-antisymm, mul-le-mul-left, mul-le-mul-right, mul-comm, mul-left-comm, le-div-iff-mul-le, mul-div-le, mul-add, sub-add-cancel}
 use borrow.Author.Tests.{not-false}
 use lib.Dec.{eqb}
-use lib.ListN.{length}
-use Rattle.model.specs.Numbers.{one, sum, cell, same}
+use lib.ListN.{length, getD}
+use lib.IntN.{ℤ, pos, subℕ}
+use Rattle.model.specs.Numbers.{signed, one, sum, tabulate, cell, same}
 use Rattle.model.specs.Rounds.{product, weighted, intermediate, round, rounds, changes, Settles, ExactBalance, impliedDemand, unit}
 use Rattle.model.specs.Promises.{Equal}
+use Rattle.model.specs.Unsigned.{unsignedDemand}
 use Rattle.theory.proofs.Sums.{sum-mono, sum-cong, sum-add, sum-scale}
-use Rattle.theory.proofs.Lists.{length-tabulate, cell-tabulate, agreed, same-equal}
+use Rattle.theory.proofs.Lists.{length-tabulate, made-tabulate, cell-tabulate, agreed-of, same-equal}
+use Rattle.theory.proofs.Signed.{difference-is, length-signed, cell-signed}
 
 module _ (n : ℕ) (c : ℕ → ℕ → ℕ) where
   -- ---- weighted sums
@@ -165,19 +168,39 @@ module _ (n : ℕ) (c : ℕ → ℕ → ℕ) where
       starts e i h =
           omega (arith, e i h, settles-fixed σ i h, settles-fixed τ i h, intermediate-cong e i)
 
-  -- ---- forward and then back returns the start
-  pub implied-cell : (y : List ℕ) (i : ℕ) → i < n → cell (impliedDemand n c y) i ≡ cell y i - intermediate n c (cell y) i
-  unfolding impliedDemand
-  implied-cell y i h = cell-tabulate n (λ i. cell y i - intermediate n c (cell y) i) i h
+  -- ---- backwards
+  abbrev left : List ℕ → ℕ → ℤ
+  left y i = subℕ (cell y i) (intermediate n c (cell y) i)
 
-  pub length-implied : (y : List ℕ) → length (impliedDemand n c y) ≡ n
+  implied-cell : (y : List ℕ) (i : ℕ) → i < n → getD (impliedDemand n c y) i (pos 0) ≡ left y i
   unfolding impliedDemand
-  length-implied y = length-tabulate n (λ i. cell y i - intermediate n c (cell y) i)
+  implied-cell y i h = made-tabulate (pos 0) n (left y) i h
 
-  pub forward-back : {s y : List ℕ} {k : ℕ} → length s ≡ n → Settles n c s k y → impliedDemand n c y ≡ s
-  forward-back {s} {y} e σ =
-      agreed n n (impliedDemand n c y) s (length-implied y) e (le-refl n)
-      (λ i h. implied-cell y i h ∙ omega (arith, settles-fixed σ i h))
+  length-implied : (y : List ℕ) → length (impliedDemand n c y) ≡ n
+  unfolding impliedDemand
+  length-implied y = length-tabulate n (left y)
+
+  -- the demand behind y is g, 0 or above in every sector, exactly where y is what a round from g makes of it
+  pub implied-fixed : (y g : List ℕ) → impliedDemand n c y ≡ signed g → Fixed g y
+  implied-fixed y g e i h =
+      difference-is (cell y i) (intermediate n c (cell y) i) (cell g i) .0
+      (sym (implied-cell y i h) ∙ ap (λ (l : List ℤ). getD l i (pos 0)) e ∙ cell-signed g i)
+
+  pub fixed-implied : (y g : List ℕ) → length g ≡ n → Fixed g y → impliedDemand n c y ≡ signed g
+  fixed-implied y g e p =
+      agreed-of (pos 0) n n (impliedDemand n c y) (signed g) (length-implied y) (length-signed g ∙ e) (le-refl n)
+      (λ i h. implied-cell y i h ∙ difference-is (cell y i) (intermediate n c (cell y) i) (cell g i) .1 (p i h) ∙ sym (cell-signed g i))
+
+  -- so forward and then back returns the start
+  pub forward-back : {s y : List ℕ} {k : ℕ} → length s ≡ n → Settles n c s k y → impliedDemand n c y ≡ signed s
+  forward-back {s} {y} e σ = fixed-implied y s e (settles-fixed σ)
+
+  -- and where no sector is short it is the demand of document 01's call
+  pub unsigned-implied : (y : List ℕ) → ((i : ℕ) → i < n → intermediate n c (cell y) i ≤ cell y i) → impliedDemand n c y ≡ signed (unsignedDemand n c y)
+  unfolding unsignedDemand
+  unsigned-implied y p =
+      let rest : ℕ → ℕ = λ i. cell y i - intermediate n c (cell y) i in
+      fixed-implied y (tabulate n rest) (length-tabulate n rest) (λ i h. omega (arith, p i h, cell-tabulate n rest i h))
 
 -- ---- the start of an inverse column
 module _ (n j : ℕ) where

@@ -4,7 +4,7 @@ use Prim.Native.Nat.{_-_}
 use native.Mathlib.Omega.{arith}
 use borrow.Author.Needs.{needs}
 use lib.ListN.{length, length-set}
-use Rattle.theory.proofs.Lists.{Front, front-none, front-set, zeroed}
+use Rattle.theory.proofs.Lists.{Front, front-none, front-set, front-filled}
 use Rattle.cells.proofs.fill_zero.Statement.{statement}
 use Rattle.cells.proofs.fill_zero.Tie as tie
 
@@ -18,7 +18,7 @@ loop-again : tie.Need-loop-again Inv-loop μ-loop
 loop-again c = front-set (c .before .loop .inv) (omega arith) refl
 
 returns : tie.Need-returns Inv-loop μ-loop
-returns c = let p = c .before .loop .inv in zeroed _ _ _ (p .whole) (omega arith) (p .agree)
+returns c = front-filled (c .before .loop .inv) (omega arith)
 
 pub fill-zero-spec : {M : Type 1} → statement M
 fill-zero-spec =

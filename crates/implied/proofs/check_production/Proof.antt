@@ -4,7 +4,7 @@ use mathlib.Core.Path.{_∙_}
 use borrow.Author.Needs.{needs}
 use lib.ListN.{length}
 use Rattle.model.specs.Checks.{Check, productionTotal}
-use Rattle.model.specs.Calls.{matrixChecks}
+use Rattle.model.specs.Calls.{matrixChecks, impliedReport}
 use Rattle.theory.proofs.Verdicts.{answered-pass, answered-on, answered-end, first-length}
 use Rattle.implied.proofs.check_production.Statement.{statement}
 use Rattle.implied.proofs.check_production.Tie as tie
@@ -20,6 +20,7 @@ abbrev last : tie.After-check-domestic → List Check
 last q = let a = entry q .args in productionTotal (a .n) (a .y .now) ∷ []
 
 returns : tie.Need-returns
+unfolding impliedReport
 returns c =
     let q = c .before .before in
     answered-end (asked q) (q .check-domestic .ensures) (last q) (c .enum-told2 .given .1)
@@ -31,6 +32,7 @@ total-within-requires c κs =
     first-length (a .n) (a .d .now) [] (a .out-len ∷ []) (length (a .y .now)) (answered-pass (asked q) (q .check-domestic .ensures) (c .enum-told .given .1))
 
 returns-2 : tie.Need-returns-2
+unfolding impliedReport
 returns-2 c =
     let q = c .before .before .before in
     c .total-within .ensures ∙ answered-on (asked q) (q .check-domestic .ensures) (last q) [] (c .before .enum-told .given .1)
