@@ -40,7 +40,7 @@ extern "C" {
 #endif
 
 /* The version of this header; scripts/version prints and sets it. A change of the first number changes what callers see. */
-#define TAWQESHIM_VERSION "3.3.0"
+#define TAWQESHIM_VERSION "4.0.0"
 
 /* The version of the library that a program runs with. */
 extern const char tawqeshim_version[];

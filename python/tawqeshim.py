@@ -87,7 +87,7 @@ from pathlib import Path
 from typing import Any, Callable, NamedTuple, NoReturn, Optional, Protocol, TypeVar, Union, cast, overload
 
 # tawqeshim/py.typed, beside this file, tells type checkers that it is typed. Python imports this file: the folder has no __init__.py.
-__version__ = "3.3.0"
+__version__ = "4.0.0"
 __all__ = ["PRODUCTION_BUDGET", "PRICE_BUDGET", "QUESTIONS", "Refused", "Coefficients", "Production", "Impact", "Prices", "Induced",
            "Inverse", "Table", "Aggregate", "coefficients", "domestic_demand", "aggregate", "production", "impact", "price", "implied_demand",
            "induced", "inverse", "row", "read_table", "write_table", "page"]

@@ -67,22 +67,21 @@ pub fn show_cells(cells: &[u64]) {
     }
 }
 
-// How far a number below 0 is from 0; 0 for any other.
-fn below_zero(cell: i64) -> u64 {
+// How far a number is from 0.
+fn magnitude(cell: i64) -> u64 {
     if cell < 0 {
         return (-1 - cell) as u64 + 1;
     }
-    0
+    cell as u64
 }
 
 // A signed cell, with `-` before one that is below 0.
 fn show_signed_cell(cell: i64) {
+    show_word(b" ");
     if cell < 0 {
-        show_word(b" -");
-        print_decimal(STDOUT_FILENO, below_zero(cell));
-        return;
+        show_word(b"-");
     }
-    show_cell(cell as u64);
+    print_decimal(STDOUT_FILENO, magnitude(cell));
 }
 
 fn show_signed_cells(cells: &[i64]) {

@@ -5,7 +5,7 @@ use Rattle.c_sheets.proofs.tawqeshim_implied_demand.Statement.{statemen
 use Rattle.c_sheets.proofs.tawqeshim_implied_demand.Tie as tie
 
 returns : tie.Need-returns
-returns c = implied-told (c .tell-answer .ensures) (c .before .before .before .before .before .implied-demand .ensures)
+returns c = implied-told (c .tell-answer .ensures) (c .before .before .before .before .implied-demand .ensures)
 
 pub tawqeshim-implied-demand-spec : {M : Type 1} → statement M
 tawqeshim-implied-demand-spec =
