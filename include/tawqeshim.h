@@ -129,7 +129,7 @@ static inline const char *tawqeshim_question(uint8_t number) {
         "is every column sum of domestic coefficients at most 950,000?",
         "is every demand, direct rise or total of a production within its limit?",
         "do the rounds settle within the budget?",
-        "does the production leave every sector's demand at 0 or above? (reserved: no longer asked)",
+        "reserved, no longer asked: does the production leave every sector's demand at 0 or above?",
         "is the record's kind 1 to 10, and its body whole?",
         "is the first record kind 1 with n from 1 to 40, and no later one?",
         "is every sector byte from 1 to n?",

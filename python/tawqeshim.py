@@ -106,7 +106,7 @@ QUESTIONS: dict[int, str] = {
     7: "is every column sum of domestic coefficients at most 950,000?",
     8: "is every demand, direct rise or total of a production within its limit?",
     9: "do the rounds settle within the budget?",
-    10: "does the production leave every sector's demand at 0 or above? (reserved: no longer asked)",
+    10: "reserved, no longer asked: does the production leave every sector's demand at 0 or above?",
     11: "is the record's kind 1 to 10, and its body whole?",
     12: "is the first record kind 1 with n from 1 to 40, and no later one?",
     13: "is every sector byte from 1 to n?",

@@ -3,7 +3,7 @@
 
 use crate::calls::{by_library, Call, Case};
 use crate::generate::{file_of, written_table, Rng};
-use crate::reference::{self, FILE_BYTES, FILE_LENGTHS, SECTORS};
+use crate::reference::{self, amounts, FILE_BYTES, FILE_LENGTHS, SECTORS};
 
 pub struct Report {
     pub tables: usize,
@@ -30,7 +30,7 @@ fn delivered(table: &Table) -> Table {
 /// What the library reads from a file: n, how many cells are named, and its slices.
 fn read(file: &[u8]) -> Option<([usize; 2], Table)> {
     let outcome = by_library(&Case::of_file(Call::ReadTable, file.to_vec())).ok()?;
-    if outcome.number == 0 { Some((outcome.counts, outcome.cells)) } else { None }
+    if outcome.number == 0 { Some((outcome.counts, amounts(&outcome.cells))) } else { None }
 }
 
 /// One table: its file read by the other reading of the paper, in both directions; files of it in
@@ -45,7 +45,7 @@ fn check(rng: &mut Rng) -> Result<usize, String> {
 
     // The library's file, read by the reference; the reference's, read by the library.
     match reference::read_table(&bytes[..length], &FILE_LENGTHS) {
-        Ok(read) if read.counts == counts && read.cells == cells => {}
+        Ok(read) if read.counts == counts && amounts(&read.cells) == cells => {}
         _ => return Err(about("the reference reads something else")),
     }
     let slices = std::array::from_fn(|k| &table[k][..]);

@@ -61,7 +61,7 @@ impl Call {
 
     /// The numbers the call can give. A row gives none; here 0 stands for a stretch, 1 for none.
     /// A page shows the number that refused; 2 is the call's own, for a buffer of another length. It
-    /// cannot show 1 and 8, nor 9, since its budget is enough for every table.
+    /// cannot show 1 and 8, nor 9, since its budget is enough for every table. 10 is reserved, and no call's.
     pub fn numbers(self) -> &'static [u8] {
         match self {
             Call::Coefficients => &[0, 1, 2, 3, 4, 5, 6, 7, 16],
@@ -69,7 +69,7 @@ impl Call {
             Call::Aggregate => &[0, 1, 2, 3, 4, 5, 6, 16, 18, 19],
             Call::Production | Call::Price => &[0, 1, 2, 7, 8, 9],
             Call::Impact => &[0, 1, 2, 7, 8, 9, 17],
-            Call::ImpliedDemand => &[0, 1, 2, 7, 8, 10],
+            Call::ImpliedDemand => &[0, 1, 2, 7, 8],
             Call::Induced => &[0, 1, 2, 3, 8],
             Call::Inverse => &[0, 1, 2, 7, 9],
             Call::Row => &[0, 1],
@@ -142,13 +142,13 @@ impl Case {
     }
 }
 
-/// Everything a caller can see after a call: lent cells, or the lent bytes of a file or a page.
+/// Everything a caller can see after a call: lent cells, unsigned or signed, or the lent bytes of a file or a page.
 #[derive(Clone, Debug, PartialEq, Eq)]
 pub struct Outcome {
     pub number: u8,
     pub place: usize,
     pub counts: [usize; 2],
-    pub cells: Vec<Vec<u64>>,
+    pub cells: Vec<Vec<i128>>,
     pub bytes: Vec<u8>,
 }
 
@@ -165,9 +165,9 @@ impl Outcome {
     }
 }
 
-/// What lies in lent cells before a call.
+/// What lies in lent cells before a call; in signed cells it is of either sign.
 fn junk(k: usize) -> u64 {
-    (k as u64 + 1).wrapping_mul(0x9e37_79b9_7f4a_7c15) | 1
+    (k as u64 + 3).wrapping_mul(0x9e37_79b9_7f4a_7c15) | 1
 }
 
 fn junk_bytes(length: usize) -> Vec<u8> {
@@ -310,7 +310,7 @@ pub fn by_library(case: &Case) -> Result<Outcome, &'static str> {
             }
             Call::ImpliedDemand => {
                 tawqeshim_implied_demand(
-                    n, g(0), gl(0), g(1), gl(1), l(0), ll(0), &mut number, &mut place,
+                    n, g(0), gl(0), g(1), gl(1), l(0).cast(), ll(0), &mut number, &mut place,
                 );
                 counts = [0, 0];
             }
@@ -354,7 +354,10 @@ pub fn by_library(case: &Case) -> Result<Outcome, &'static str> {
             return Err("a cell beyond a lent slice changed");
         }
     }
-    let cells = lent.iter().map(|cells| cells[GUARD..cells.len() - GUARD].to_vec()).collect();
+    // The cells of a demand behind a production were lent as signed ones.
+    let signed = case.call == Call::ImpliedDemand;
+    let read = |cell: &u64| if signed { i128::from(*cell as i64) } else { i128::from(*cell) };
+    let cells = lent.iter().map(|cells| cells[GUARD..cells.len() - GUARD].iter().map(read).collect()).collect();
     Ok(Outcome { number, place, counts, cells, bytes: vec![] })
 }
 

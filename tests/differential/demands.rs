@@ -3,7 +3,7 @@
 
 use crate::calls::{by_library, Call, Case, Outcome};
 use crate::generate::{raised, Rng};
-use crate::reference::{AMOUNT_LIMIT, ONE, PRODUCTION_BUDGET};
+use crate::reference::{amounts, AMOUNT_LIMIT, ONE, PRODUCTION_BUDGET};
 
 /// What the library gives of m, F, E and G, which are accepted.
 fn demand(n: usize, inputs: [&[u64]; 4]) -> Result<Vec<u64>, &'static str> {
@@ -12,7 +12,7 @@ fn demand(n: usize, inputs: [&[u64]; 4]) -> Result<Vec<u64>, &'static str> {
     if outcome.number != 0 {
         return Err("a final demand within its limit is refused");
     }
-    Ok(outcome.cells[0].clone())
+    Ok(amounts(&outcome.cells).swap_remove(0))
 }
 
 /// The number of a call that takes a sheet and demands, with a budget that suffices.
@@ -68,14 +68,17 @@ pub fn check(case: &Case, outcome: &Outcome) -> Result<(), &'static str> {
     let (n, given) = (case.n, &case.given);
     match case.call {
         Call::Coefficients => {
-            let [_, _, m, d, f] = &outcome.cells[..] else { unreachable!() };
+            let [_, _, m, d, f] = &amounts(&outcome.cells)[..] else { unreachable!() };
             let inputs: [&[u64]; 4] = [m, &given[1], &given[2], &given[6]];
             if demand(n, inputs)? != *f {
                 return Err("the demand of a table's final demand is not its f");
             }
             scheme(n, d, inputs, f)
         }
-        Call::DomesticDemand => scheme(n, &vec![0; n * n], std::array::from_fn(|k| &given[k][..]), &outcome.cells[0]),
+        Call::DomesticDemand => {
+            let inputs = std::array::from_fn(|k| &given[k][..]);
+            scheme(n, &vec![0; n * n], inputs, &amounts(&outcome.cells)[0])
+        }
         _ => Ok(()),
     }
 }

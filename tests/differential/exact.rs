@@ -113,10 +113,11 @@ pub struct Report {
     pub broken: usize,
 }
 
+/// What the library gives; None if it refuses, or if a cell is below 0.
 fn amounts(call: Call, n: usize, sheet: &[u64], start: &[u64]) -> Option<Vec<u64>> {
     let case = Case::new(call, n, vec![sheet.to_vec(), start.to_vec()]);
     let outcome = by_library(&Case { budget: u32::MAX, ..case }).ok()?;
-    if outcome.number == 0 { Some(outcome.cells[0].clone()) } else { None }
+    if outcome.number == 0 { outcome.cells[0].iter().map(|cell| u64::try_from(*cell).ok()).collect() } else { None }
 }
 
 fn start(rng: &mut Rng, n: usize, limit: u64) -> Vec<u64> {

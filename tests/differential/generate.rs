@@ -2,7 +2,7 @@
 
 use crate::budgets::loop_and_ring;
 use crate::calls::{by_reference, Call, Case, PAGE_BYTES};
-use crate::reference::{self, PRICE_BUDGET, PRODUCTION_BUDGET, SECTORS};
+use crate::reference::{self, amounts, PRICE_BUDGET, PRODUCTION_BUDGET, SECTORS};
 
 const AMOUNT: u64 = reference::AMOUNT_LIMIT as u64;
 const ONE: u64 = reference::ONE as u64;
@@ -349,25 +349,62 @@ fn tight_budget(rng: &mut Rng, case: &mut Case) {
     }
 }
 
-fn implied_case(rng: &mut Rng) -> Case {
-    let n = if rng.chance(1, 4) { size(rng) } else { 1 + rng.below(5) };
-    let mut d = domestic(rng, n);
-    let mut production = productions(rng, n);
-    // A settled production, or one next to it.
-    if rng.chance(1, 3) && n <= 6 {
-        let start: Vec<u64> = (0..n).map(|_| rng.magnitude(DEMAND)).collect();
-        if let Some((settled, _)) = reference::settle(n, &d, &start, 3000) {
-            production = settled;
-            match rng.below(4) {
-                0 => production[rng.spot(n)] += 1,
-                1 => {
-                    let at = rng.spot(n);
-                    production[at] = production[at].saturating_sub(1);
-                }
-                _ => {}
+/// A settled production, one next to it, or one in which a sector makes less.
+fn settled_production(rng: &mut Rng, n: usize, d: &[u64]) -> Option<Vec<u64>> {
+    let start: Vec<u64> = (0..n).map(|_| rng.magnitude(DEMAND)).collect();
+    let (mut production, _) = reference::settle(n, d, &start, 3000)?;
+    let at = rng.spot(n);
+    match rng.below(8) {
+        0 => production[at] += 1,
+        1 => production[at] = production[at].saturating_sub(1),
+        2 | 3 => production[at] = 0,
+        4 | 5 => production[at] = rng.magnitude(production[at]),
+        _ => {}
+    }
+    Some(production)
+}
+
+/// The least that sector i can make without being short, beside what the others make.
+fn least_made(n: usize, d: &[u64], production: &[u64], i: usize) -> u64 {
+    let taken: u64 = (0..n).filter(|j| *j != i).map(|j| d[i * n + j] * production[j]).sum();
+    // With what it takes itself that is less than a unit more than it makes.
+    if taken < ONE { 0 } else { (taken - ONE) / (ONE - d[i * n + i]) + 1 }
+}
+
+/// A production that leaves sectors short or with nothing, where the sheet has them sell to others.
+fn short_production(rng: &mut Rng, n: usize, d: &[u64]) -> Vec<u64> {
+    let at = rng.spot(n);
+    let whole = PRODUCTION - rng.of(&[0, 0, 1, PRODUCTION / 2]);
+    let mut production = vec![0; n];
+    match rng.below(6) {
+        // One sector alone makes something: a little, any amount, or a large total.
+        0 | 1 => production[at] = [rng.upto(2_000), rng.magnitude(PRODUCTION), whole][rng.below(3)],
+        // A large total in any parts, mostly with a sector that makes nothing or little.
+        2 | 3 => {
+            production = split(rng, whole, n);
+            production[at] = [production[at], 0, rng.magnitude(production[at])][rng.below(3)];
+        }
+        // A sector or two have nothing left or are a unit short. A twentieth of the limit leaves room for the first.
+        _ => {
+            let most = rng.of(&[2_000, PRODUCTION / (20 * n as u64)]);
+            production.iter_mut().for_each(|amount| *amount = rng.magnitude(most));
+            for i in [at, rng.below(n)] {
+                production[i] = least_made(n, d, &production, i).saturating_sub(rng.upto(1));
             }
         }
     }
+    production
+}
+
+fn implied_case(rng: &mut Rng) -> Case {
+    let n = if rng.chance(1, 4) { size(rng) } else { 1 + rng.below(5) };
+    let mut d = domestic(rng, n);
+    let drawn = match rng.below(8) {
+        0 | 1 if n <= 6 => settled_production(rng, n, &d),
+        2..=5 => Some(short_production(rng, n, &d)),
+        _ => None,
+    };
+    let production = drawn.unwrap_or_else(|| productions(rng, n));
     if rng.chance(1, 8) {
         press_column(rng, n, &mut d);
     }
@@ -827,7 +864,8 @@ fn inputs_of_table(rng: &mut Rng, n: usize) -> Option<Inputs> {
     let table = table(rng, n);
     let sheets = by_reference(&Case::new(Call::Coefficients, n, table.clone()));
     let [final_demand, exports, adjustment] = [FINAL, EXPORTS, ADJUSTMENT].map(|slice| table[slice].clone());
-    if sheets.number == 0 { Some([sheets.cells[2].clone(), final_demand, exports, adjustment]) } else { None }
+    let shares = amounts(&sheets.cells).swap_remove(2);
+    if sheets.number == 0 { Some([shares, final_demand, exports, adjustment]) } else { None }
 }
 
 /// Any that are accepted: cells at 0, at the limit, near one of these, or between.
@@ -1357,7 +1395,7 @@ pub fn table_read(file: &[u8]) -> Option<(usize, Table)> {
     let read = reference::read_table(file, &reference::FILE_LENGTHS).ok()?;
     let n = read.counts[0];
     let lengths = Call::WriteTable.given_lengths(n);
-    Some((n, read.cells.iter().zip(lengths).map(|(cells, length)| cells[..length].to_vec()).collect()))
+    Some((n, amounts(&read.cells).iter().zip(lengths).map(|(cells, length)| cells[..length].to_vec()).collect()))
 }
 
 fn write_case(rng: &mut Rng) -> Case {

@@ -4,7 +4,7 @@
 use crate::calls::{by_library, Call, Case, Outcome};
 
 /// The production that the library settles from a demand, and its count.
-fn production(case: &Case, demand: &[u64]) -> Result<(Vec<u64>, usize), &'static str> {
+fn production(case: &Case, demand: &[u64]) -> Result<(Vec<i128>, usize), &'static str> {
     let given = vec![case.given[0].clone(), demand.to_vec()];
     let outcome = by_library(&Case { budget: case.budget, ..Case::new(Call::Production, case.n, given) })?;
     if outcome.number != 0 {
@@ -32,13 +32,14 @@ pub fn check(case: &Case, outcome: &Outcome) -> Result<(), &'static str> {
         if rise[i] != with[i] - without[i] {
             return Err("a rise is not the difference of two productions");
         }
-        if after[i] < before[i] || rise[i] < after[i] - before[i] {
+        let scheme = i128::from(after[i]) - i128::from(before[i]);
+        if scheme < 0 || rise[i] < scheme {
             return Err("a sector rises by less than what was added to it");
         }
-        added += u128::from(after[i] - before[i]);
-        risen += u128::from(rise[i]);
+        added += scheme;
+        risen += rise[i];
     }
-    if risen >= 20 * added + 20 * case.n as u128 {
+    if risen >= 20 * added + 20 * case.n as i128 {
         return Err("the total rise is too large");
     }
     if added == 0 && risen != 0 {

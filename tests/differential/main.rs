@@ -1,9 +1,10 @@
 //! Differential test: the library, through its C interface, against the paper.
 //!
 //! `differential [cases]` first runs the paper's worked cases, then as many pseudo-random cases
-//! (2,000,000 unless told otherwise), each accepted impact, each merged table and each demand for domestic
-//! goods among them against what is promised of it and each refusal for too few rounds against its budget,
-//! then settled amounts against exact balances, files that are written and read, and the slowest sheets.
+//! (2,000,000 unless told otherwise), each accepted impact, each merged table, each demand for domestic goods
+//! and each demand behind a production among them against what is promised of it and each refusal for too few
+//! rounds against its budget, then settled amounts against exact balances, files that are written and read,
+//! and the slowest sheets.
 //! The seed is fixed and a case depends on its index alone, so every run is the same.
 
 mod archives;
@@ -15,6 +16,7 @@ mod generate;
 mod impacts;
 mod merging;
 mod reference;
+mod shortages;
 #[path = "../../include/tawqeshim.rs"]
 mod tawqeshim;
 mod worked;
@@ -30,10 +32,12 @@ const TABLES: usize = 10_000;
 /// Every number that an answer can have, 0 with them.
 const NUMBERS: usize = reference::QUESTIONS + 1;
 
-/// What a run has seen: cases for each call and number, the most rounds, and what differs.
+/// What a run has seen: cases for each call and number, productions with a sector short, the most rounds, and what
+/// differs.
 struct Tally {
     cases: u64,
     seen: [[u64; NUMBERS]; CALLS.len()],
+    short: u64,
     most_rounds: usize,
     differences: u64,
     smallest: Vec<(Case, String)>,
@@ -44,6 +48,7 @@ impl Tally {
         Tally {
             cases: 0,
             seen: [[0; NUMBERS]; CALLS.len()],
+            short: 0,
             most_rounds: 0,
             differences: 0,
             smallest: vec![],
@@ -56,6 +61,9 @@ impl Tally {
         self.seen[case.call as usize][usize::from(number_seen(&case, &paper))] += 1;
         if matches!(case.call, Call::Production | Call::Impact | Call::Price | Call::Inverse) {
             self.most_rounds = self.most_rounds.max(paper.counts[0]);
+        }
+        if case.call == Call::ImpliedDemand && paper.cells[0].iter().any(|cell| *cell < 0) {
+            self.short += 1;
         }
         let told = match checked(&case, &paper) {
             Ok(library) if library == paper => return,
@@ -77,6 +85,7 @@ impl Tally {
 
     fn add(&mut self, other: Tally) {
         self.cases += other.cases;
+        self.short += other.short;
         self.most_rounds = self.most_rounds.max(other.most_rounds);
         self.differences += other.differences;
         for (row, theirs) in self.seen.iter_mut().zip(other.seen) {
@@ -98,6 +107,7 @@ fn checked(case: &Case, paper: &Outcome) -> Result<Outcome, &'static str> {
     demands::check(case, &library)?;
     impacts::check(case, &library)?;
     merging::check(case, &library)?;
+    shortages::check(case, &library)?;
     Ok(library)
 }
 
@@ -200,6 +210,17 @@ fn tell_numbers(tally: &Tally) -> u64 {
     unseen
 }
 
+/// Tells how many of the accepted productions leave a sector short. Returns 1 if fewer than a third do.
+fn tell_shortages(tally: &Tally) -> u64 {
+    let accepted = tally.seen[Call::ImpliedDemand as usize][0];
+    println!("shortages: {} of {accepted} accepted productions leave a sector short", tally.short);
+    let few = 3 * tally.short < accepted;
+    if few {
+        println!("shortages: fewer than a third");
+    }
+    u64::from(few)
+}
+
 fn main() {
     let cases = match std::env::args().nth(1) {
         None => CASES,
@@ -215,6 +236,7 @@ fn main() {
         println!("{told}\n  {case:?}");
     }
     let unseen = tell_numbers(&tally);
+    let few = tell_shortages(&tally);
     println!("most rounds: {}", tally.most_rounds);
     println!(
         "exact balances: {} sheets, {} pairs of demands, {} broken",
@@ -230,7 +252,7 @@ fn main() {
         slow.sheets, slow.broken
     );
     let broken = (exact.broken + archives.broken + slow.broken) as u64;
-    let differences = tally.differences + wrong + unseen + broken;
+    let differences = tally.differences + wrong + unseen + few + broken;
     println!("differential: {} cases, {differences} differences", tally.cases);
     if differences > 0 {
         exit(1);

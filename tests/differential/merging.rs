@@ -2,6 +2,7 @@
 //! before, the questions of a table, and other mergings by the library.
 
 use crate::calls::{by_library, by_reference, Call, Case, Outcome, GROUPS};
+use crate::reference::amounts;
 
 type Table = [Vec<u64>];
 
@@ -9,10 +10,11 @@ fn total(cells: &[u64]) -> u128 {
     cells.iter().map(|cell| u128::from(*cell)).sum()
 }
 
-/// What the library gives of a table and other groups.
-fn merged(n: usize, table: &Table, groups: Vec<u64>) -> Result<Outcome, &'static str> {
+/// What the library gives of a table and other groups: the number and all cells.
+fn merged(n: usize, table: &Table, groups: Vec<u64>) -> Result<(u8, Vec<Vec<u64>>), &'static str> {
     let given = [table, &[groups]].concat();
-    by_library(&Case::new(Call::Aggregate, n, given))
+    let outcome = by_library(&Case::new(Call::Aggregate, n, given))?;
+    Ok((outcome.number, amounts(&outcome.cells)))
 }
 
 /// "The totals of x, F, E, M, V, X and G equal those before", and the groups together have n sectors.
@@ -39,8 +41,8 @@ fn questions(g: usize, after: &Table) -> Result<(), &'static str> {
 
 /// Groups of one sector each, in order, change nothing.
 fn singles(n: usize, before: &Table) -> Result<(), &'static str> {
-    let outcome = merged(n, before, (0..n).map(|sector| 1 << sector).collect())?;
-    if outcome.number != 0 || outcome.cells[..GROUPS] != *before || outcome.cells[GROUPS] != vec![1; n] {
+    let (number, cells) = merged(n, before, (0..n).map(|sector| 1 << sector).collect())?;
+    if number != 0 || cells[..GROUPS] != *before || cells[GROUPS] != vec![1; n] {
         return Err("groups of one sector each change something");
     }
     Ok(())
@@ -57,15 +59,15 @@ fn twice(case: &Case, after: &Table, sizes: &[u64]) -> Result<(), &'static str> 
         joined[k % h] |= groups[k];
         taken_in[k % h] += sizes[k];
     }
-    let again = merged(g, after, second)?;
-    let at_once = merged(case.n, before, joined)?;
-    if again.number != at_once.number || again.number != 0 && again.number != 19 {
+    let (number, again) = merged(g, after, second)?;
+    let (number_at_once, at_once) = merged(case.n, before, joined)?;
+    if number != number_at_once || number != 0 && number != 19 {
         return Err("merging again is answered unlike merging at once");
     }
-    if again.cells[..GROUPS] != at_once.cells[..GROUPS] {
+    if again[..GROUPS] != at_once[..GROUPS] {
         return Err("merging again gives another table than merging at once");
     }
-    if at_once.number == 0 && at_once.cells[GROUPS] != taken_in {
+    if number == 0 && at_once[GROUPS] != taken_in {
         return Err("a joined group has not the sectors of its groups");
     }
     Ok(())
@@ -76,7 +78,8 @@ pub fn check(case: &Case, outcome: &Outcome) -> Result<(), &'static str> {
     if case.call != Call::Aggregate || outcome.number != 0 {
         return Ok(());
     }
-    let (before, after, sizes) = (&case.given[..GROUPS], &outcome.cells[..GROUPS], &outcome.cells[GROUPS]);
+    let cells = amounts(&outcome.cells);
+    let (before, after, sizes) = (&case.given[..GROUPS], &cells[..GROUPS], &cells[GROUPS]);
     totals(case.n, before, after, sizes)?;
     questions(sizes.len(), after)?;
     singles(case.n, before)?;

@@ -1,6 +1,6 @@
 //! The paper "The competitive-import sheets", and the later requests to it, call by call, written from their words alone.
 //!
-//! Plain and slow on purpose: sums are u128, every list is a fresh vector, nothing is shared
+//! Plain and slow on purpose: sums have 128 bits, every list is a fresh vector, nothing is shared
 //! with the library. A call takes its inputs and the lengths of the slices lent to it. It gives
 //! the cells of those slices after the call, in the interface's order, or a refusal.
 
@@ -30,11 +30,26 @@ pub struct Refusal {
     pub place: usize,
 }
 
-/// An acceptance: every lent slice after the call, and the counts of the answer.
+/// An acceptance: every lent slice after the call, and the counts of the answer. Only the demand behind a production
+/// may be below 0.
 #[derive(Clone, Debug, PartialEq, Eq)]
 pub struct Given {
-    pub cells: Vec<Vec<u64>>,
+    pub cells: Vec<Vec<i128>>,
     pub counts: [usize; 2],
+}
+
+impl Given {
+    /// The answer of a call whose cells are amounts.
+    fn of(slices: Vec<Vec<u64>>, counts: [usize; 2]) -> Given {
+        let cells = slices.iter().map(|slice| slice.iter().map(|amount| i128::from(*amount)).collect()).collect();
+        Given { cells, counts }
+    }
+}
+
+/// Cells that a call gave as amounts for another to take: none is below 0.
+pub fn amounts(cells: &[Vec<i128>]) -> Vec<Vec<u64>> {
+    let amount = |cell: &i128| u64::try_from(*cell).expect("a cell that is no amount");
+    cells.iter().map(|slice| slice.iter().map(amount).collect()).collect()
 }
 
 type Asked = Result<(), Refusal>;
@@ -301,7 +316,7 @@ pub fn coefficients(
         f[i] = cell(inside + u128::from(exports[i]) + u128::from(adjustment[i]));
     }
     question_7(n, &d)?;
-    Ok(Given { cells: vec![a, v, m, d, f], counts: [0, 0] })
+    Ok(Given::of(vec![a, v, m, d, f], [0, 0]))
 }
 
 /// The demand for domestic goods of any final demand, from m, F, E and G. Asks 1, 2, 3, 16. Lent: demand.
@@ -324,7 +339,7 @@ pub fn domestic_demand(
         let used = u128::from(final_demand[i]) + u128::from(exports[i]) + u128::from(adjustment[i]);
         demand[i] = cell(used - imported);
     }
-    Ok(Given { cells: vec![demand], counts: [0, 0] })
+    Ok(Given::of(vec![demand], [0, 0]))
 }
 
 // ---------------------------------------------------------------------------------------------
@@ -364,7 +379,7 @@ pub fn aggregate(n: usize, table: [&[u64]; 7], groups: &[u64], lent: &[usize]) -
     let mut cells: Vec<Vec<u64>> = merged.into_iter().map(|sums| sums.into_iter().map(cell).collect()).collect();
     // "How many sectors each group took in."
     cells.push((0..g).map(|k| homes.iter().filter(|home| **home == k).count() as u64).collect());
-    Ok(Given { cells, counts: [0, 0] })
+    Ok(Given::of(cells, [0, 0]))
 }
 
 // ---------------------------------------------------------------------------------------------
@@ -418,7 +433,7 @@ pub fn production(
     question_7(n, d)?;
     question_8_each(f, DEMAND_LIMIT)?;
     let (settled, count) = settle(n, d, f, budget).ok_or(Refusal { number: 9, place: 0 })?;
-    Ok(Given { cells: vec![settled, vec![0; n]], counts: [count as usize, 0] })
+    Ok(Given::of(vec![settled, vec![0; n]], [count as usize, 0]))
 }
 
 /// "What a scheme adds" (document 02, ticket 4): the rise of each sector from the first demand to the second. Asks 1, 2, 7, 8, 17, 9:
@@ -442,7 +457,7 @@ pub fn impact(
     let (without, first) = settle(n, d, before, budget).ok_or(nine)?;
     let (with, second) = settle(n, d, after, budget).ok_or(nine)?;
     let rise = (0..n).map(|i| with[i].checked_sub(without[i]).expect("a production that falls")).collect();
-    Ok(Given { cells: vec![rise, vec![0; n]], counts: [first.max(second) as usize, 0] })
+    Ok(Given::of(vec![rise, vec![0; n]], [first.max(second) as usize, 0]))
 }
 
 /// "Prices": as production, the sum running down the column. Asks 1, 2, 7, 8, 9. Lent: rise, work.
@@ -459,10 +474,11 @@ pub fn price(
     question_8_each(w, RISE_LIMIT)?;
     let columns = turned(n, d);
     let (settled, count) = settle(n, &columns, w, budget).ok_or(Refusal { number: 9, place: 0 })?;
-    Ok(Given { cells: vec![settled, vec![0; n]], counts: [count as usize, 0] })
+    Ok(Given::of(vec![settled, vec![0; n]], [count as usize, 0]))
 }
 
-/// "Backwards": production less what industry takes. Asks 1, 2, 7, 8, 10. Lent: demand.
+/// "Backwards": production less what industry takes, "a signed demand for each sector" (document 02, ticket 8).
+/// Asks 1, 2, 7, 8. Lent: demand.
 pub fn implied_demand(
     n: usize,
     d: &[u64],
@@ -473,14 +489,8 @@ pub fn implied_demand(
     question_2(&[(d.len(), n * n), (production.len(), n), (lent[0], n)])?;
     question_7(n, d)?;
     question_8_total(production)?;
-    let mut demand = vec![0; n];
-    for i in 0..n {
-        // Question 10: the first row whose demand would be below 0.
-        match u128::from(production[i]).checked_sub(taken(n, d, production, i)) {
-            Some(rest) => demand[i] = cell(rest),
-            None => return Err(Refusal { number: 10, place: i }),
-        }
-    }
+    // What is taken is rounded down "before it is taken off".
+    let demand = (0..n).map(|i| i128::from(production[i]) - taken(n, d, production, i) as i128).collect();
     Ok(Given { cells: vec![demand], counts: [0, 0] })
 }
 
@@ -515,7 +525,7 @@ pub fn induced(
         let need = taken(n, a, production, i);
         imports[i] = cell(u128::from(m[i]) * (need + u128::from(final_demand[i])) / ONE);
     }
-    Ok(Given { cells: vec![value, imports], counts: [0, 0] })
+    Ok(Given::of(vec![value, imports], [0, 0]))
 }
 
 /// The inverse sheet with its ratios. Asks 1, 2, 7, 9. Lent: sheet, influence, sensitivity.
@@ -538,7 +548,7 @@ pub fn inverse(n: usize, d: &[u64], budget: u32, lent: &[usize]) -> Result<Given
     let ratio = |sum: u128| cell(sum * n as u128 * ONE / all);
     let influence = (0..n).map(|j| ratio(total(column_of(&sheet, n, j)))).collect();
     let sensitivity = (0..n).map(|i| ratio(total(row_of(&sheet, n, i)))).collect();
-    Ok(Given { cells: vec![sheet, influence, sensitivity], counts: [largest as usize, 0] })
+    Ok(Given::of(vec![sheet, influence, sensitivity], [largest as usize, 0]))
 }
 
 /// A sector's row: start and length of the stretch of the caller's own sheet; 0 and 0 where empty.
@@ -630,7 +640,7 @@ pub fn read_table(file: &[u8], lent: &[usize]) -> Result<Given, Refusal> {
             if after != file.len() {
                 return no(15, after);
             }
-            return Ok(Given { cells, counts: [n, named] });
+            return Ok(Given::of(cells, [n, named]));
         }
         offset = after;
     }
@@ -692,10 +702,10 @@ pub fn page(file: &[u8]) -> Vec<u8> {
 }
 
 fn page_lines(file: &[u8]) -> Result<String, Refusal> {
-    let table = read_table(file, &FILE_LENGTHS)?;
-    let n = table.counts[0];
-    let x = &table.cells[0][..n * n];
-    let column = |slice: usize| &table.cells[slice][..n];
+    let read = read_table(file, &FILE_LENGTHS)?;
+    let (n, table) = (read.counts[0], amounts(&read.cells));
+    let x = &table[0][..n * n];
+    let column = |slice: usize| &table[slice][..n];
     let final_demand = column(1);
     let sheets = coefficients(
         n,
@@ -708,14 +718,14 @@ fn page_lines(file: &[u8]) -> Result<String, Refusal> {
         column(6),
         &[n * n, n, n, n * n, n],
     )?;
-    let [a, v, m, d, f] = &sheets.cells[..] else { unreachable!() };
+    let [a, v, m, d, f] = &amounts(&sheets.cells)[..] else { unreachable!() };
     let settled = production(n, d, f, PAGE_BUDGET, &[n, n])?;
-    let amounts = &settled.cells[0];
-    let induced = induced(n, a, m, v, final_demand, amounts, &[n, n])?;
+    let made = &amounts(&settled.cells)[0];
+    let induced = induced(n, a, m, v, final_demand, made, &[n, n])?;
     let mut lines = String::from("sector demand production value imports\n");
     for i in 0..n {
         let (value, imports) = (induced.cells[0][i], induced.cells[1][i]);
-        lines += &format!("{} {} {} {} {}\n", i + 1, f[i], amounts[i], value, imports);
+        lines += &format!("{} {} {} {} {}\n", i + 1, f[i], made[i], value, imports);
     }
     lines += &format!("rounds {}\n", settled.counts[0]);
     Ok(lines)

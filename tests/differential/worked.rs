@@ -1,9 +1,12 @@
 //! The paper's worked cases P1 to P12, its slips and its printed sheet, with the paper's numbers; files
 //! that name one cell or all; the worked table written as a file; tables with an adjustment; demands of
-//! other final demands; what schemes add; shares to the nearest millionth; and merged tables.
+//! other final demands; what schemes add; shares to the nearest millionth; merged tables; and productions
+//! that leave a shortage.
 
 use crate::calls::{Call, Case, Outcome, GROUPS, PAGE_BYTES};
-use crate::reference::{self, Refusal, AMOUNT_LIMIT, FILE_BYTES, ONE, PRICE_BUDGET, PRODUCTION_BUDGET};
+use crate::reference::{
+    self, amounts, Refusal, AMOUNT_LIMIT, FILE_BYTES, ONE, PRICE_BUDGET, PRODUCTION_BUDGET, PRODUCTION_LIMIT, SECTORS,
+};
 
 // "Worked table and its neighbours"
 const X: [u64; 4] = [100, 400, 300, 600];
@@ -58,8 +61,8 @@ fn rounds(call: Call, sheet: &[u64], start: &[u64], budget: u32) -> Case {
     Case { budget, ..case }
 }
 
-fn accepted(count: usize, cells: &[&[u64]]) -> Outcome {
-    let cells = cells.iter().map(|slice| slice.to_vec()).collect();
+fn accepted<T: Copy + Into<i128>>(count: usize, cells: &[&[T]]) -> Outcome {
+    let cells = cells.iter().map(|slice| slice.iter().map(|cell| (*cell).into()).collect()).collect();
     Outcome { number: 0, place: 0, counts: [count, 0], cells, bytes: vec![] }
 }
 
@@ -84,9 +87,7 @@ pub fn cases() -> Vec<(&'static str, Case, Outcome)> {
     cases.push(("P3", short, nine));
     cases.push(("P4", rounds(back, &D, &[999, 1999], 0), accepted(0, &[&F])));
     cases.push(("P5", rounds(back, &D, &[1000, 2000], 0), accepted(0, &[&F])));
-    let below = rounds(back, &D, &[0, 1000], 0);
-    let ten = refused(&below, 10, 0);
-    cases.push(("P6", below, ten));
+    cases.push(("P6", rounds(back, &D, &[0, 1000], 0), accepted(0, &[&[-150, 760]])));
     let rise = accepted(10, &[&[11_393, 2_248], &[0, 0]]);
     cases.push(("P7", rounds(prices, &D, &[10_000, 0], PRICE_BUDGET), rise));
     cases.push(("P8", rounds(forward, &[950_000], &[1], 1), accepted(1, &[&[1], &[0]])));
@@ -116,11 +117,11 @@ pub fn cases() -> Vec<(&'static str, Case, Outcome)> {
     let given = vec![a.to_vec(), m, v, FINAL_DEMAND.to_vec(), vec![999, 1999]];
     let induced = accepted(0, &[&[599, 999], &[249, 359]]);
     cases.push(("induced", Case::new(Call::Induced, 2, given), induced));
-    let mut read: Vec<Vec<u64>> = reference::FILE_LENGTHS.iter().map(|k| vec![0; *k]).collect();
-    read[0][..4].copy_from_slice(&X);
+    let mut read: Vec<Vec<i128>> = reference::FILE_LENGTHS.iter().map(|k| vec![0; *k]).collect();
+    read[0][..4].copy_from_slice(&X.map(i128::from));
     let columns = [FINAL_DEMAND, EXPORTS, IMPORTS, VALUE_ADDED, PRODUCTION];
     for (slice, column) in columns.iter().enumerate() {
-        read[slice + 1][..2].copy_from_slice(column);
+        read[slice + 1][..2].copy_from_slice(&column.map(i128::from));
     }
     let whole = Outcome { number: 0, place: 0, counts: [2, 14], cells: read, bytes: vec![] };
     cases.push(("file", Case::of_file(Call::ReadTable, file()), whole));
@@ -139,6 +140,8 @@ pub fn cases() -> Vec<(&'static str, Case, Outcome)> {
     cases.extend(merged_limit_cases());
     cases.extend(merging_order_cases());
     cases.extend(merged_sheets_cases());
+    cases.extend(shortage_cases());
+    cases.extend(shortage_of_forty_cases());
     cases
 }
 
@@ -288,8 +291,8 @@ fn adjustment_cases() -> Vec<(&'static str, Case, Outcome)> {
 
     // Reader and writer do not ask 16, a page shows it.
     let over = vec![1, 1, 4, 1, 0x3b, 0x9a, 0xca, 0x00, 10, 1, 0x3b, 0x9a, 0xca, 0x00, 8];
-    let mut read: Vec<Vec<u64>> = reference::FILE_LENGTHS.iter().map(|k| vec![0; *k]).collect();
-    (read[E][0], read[G][0]) = (LIMIT, LIMIT);
+    let mut read: Vec<Vec<i128>> = reference::FILE_LENGTHS.iter().map(|k| vec![0; *k]).collect();
+    (read[E][0], read[G][0]) = (LIMIT.into(), LIMIT.into());
     let whole = Outcome { number: 0, place: 0, counts: [1, 2], cells: read, bytes: vec![] };
     cases.push(("E and G over, read", Case::of_file(Call::ReadTable, over.clone()), whole));
     let mut given = vec![vec![0]; 8];
@@ -714,6 +717,72 @@ fn merged_sheets_cases() -> Vec<(&'static str, Case, Outcome)> {
     cases
 }
 
+/// A sheet and a production, to go backwards.
+fn backwards(sheet: &[u64], production: &[u64]) -> Case {
+    rounds(Call::ImpliedDemand, sheet, production, 0)
+}
+
+/// "Productions that leave a shortage", beside P6.
+fn shortage_cases() -> Vec<(&'static str, Case, Outcome)> {
+    let mut cases = Vec::new();
+    let most = PRODUCTION_LIMIT as u64;
+    for (name, production, demand) in [
+        // 150.15 and 240.24 are rounded down before they are taken off.
+        ("a shortage and a fraction", [0, 1001], [-150_i64, 761]),
+        // 0.975 and 150.15 are 151.125; 3.12 and 240.24 are 243.36.
+        ("a shortage of two products", [13, 1001], [-138, 758]),
+        // 162.15 are taken of the first sector, and 278.88 of the second; a unit less, 162.075 and 278.64.
+        ("nothing left", [162, 1000], [0, 722]),
+        ("a unit short", [161, 1000], [-1, 722]),
+        ("the second sector short", [1000, 0], [925, -240]),
+        // Of the first sector industry takes least, of the second most.
+        ("the largest total in the first sector", [most, 0], [1_480_000_000_000, -384_000_000_000]),
+        ("the largest total in the second sector", [0, most], [-240_000_000_000, 1_216_000_000_000]),
+    ] {
+        cases.push((name, backwards(&D, &production), accepted(0, &[&demand])));
+    }
+    let (limit, over) = ([0, 950_000, 0, 0], [0, 950_001, 0, 0]);
+    let largest = accepted(0, &[&[-1_520_000_000_000_i64, 1_600_000_000_000]]);
+    cases.push(("the largest shortage", backwards(&limit, &[0, most]), largest));
+
+    let mut no = |name, case: Case, number, place| {
+        let outcome = refused(&case, number, place);
+        cases.push((name, case, outcome));
+    };
+    no("a column over, a sector short", backwards(&over, &[0, 1000]), 7, 1);
+    no("7 before 8, a sector short", backwards(&over, &[0, most + 1]), 7, 1);
+    no("a total over, a sector short", backwards(&limit, &[0, most + 1]), 8, 1);
+    no("a running total over, a sector short", backwards(&limit, &[1, most]), 8, 1);
+    no("a total over, the second sector short", backwards(&D, &[most + 1, 0]), 8, 0);
+    // A cell lent too few, one too many, and none.
+    for lent in [1, 3, 0] {
+        for case in [backwards(&D, &[0, 1000]), backwards(&over, &[0, most + 1])] {
+            no("a sector short, other cells lent", Case { lent: vec![lent], ..case }, 2, 0);
+        }
+    }
+    cases
+}
+
+/// One sector short, and all but one. All cannot be: by question 7 industry takes at most 95 in 100 of the total, so
+/// the demands of all sectors together are at least a twentieth of it.
+fn shortage_of_forty_cases() -> Vec<(&'static str, Case, Outcome)> {
+    let mut cases = Vec::new();
+    let zeros = vec![0; SECTORS * SECTORS];
+    for k in [0, 17, SECTORS - 1] {
+        // Each of the others makes 1,000 and takes 10 of sector k, which makes nothing.
+        let (mut d, mut production, mut demand) = (zeros.clone(), [1_000; SECTORS], [1_000_i64; SECTORS]);
+        d[k * SECTORS..(k + 1) * SECTORS].fill(10_000);
+        (production[k], demand[k]) = (0, -390);
+        cases.push(("one of forty short", backwards(&d, &production), accepted(0, &[&demand])));
+        // Sector k alone makes something, and takes 23,750 of each, itself too: together 50,000 are left, a twentieth.
+        let (mut d, mut production, mut demand) = (zeros.clone(), [0; SECTORS], [-23_750_i64; SECTORS]);
+        (0..SECTORS).for_each(|i| d[i * SECTORS + k] = 23_750);
+        (production[k], demand[k]) = (1_000_000, 976_250);
+        cases.push(("all but one of forty short", backwards(&d, &production), accepted(0, &[&demand])));
+    }
+    cases
+}
+
 /// "How many cells were named", of 40 sectors: each cell alone, named as 0, and then all of them.
 fn named_cases() -> Vec<(&'static str, Case, Outcome)> {
     let sectors = 1..=40;
@@ -724,7 +793,7 @@ fn named_cases() -> Vec<(&'static str, Case, Outcome)> {
     for kind in [3, 4, 5, 6, 7, 9, 10] {
         records.extend(sectors.clone().map(|sector| vec![kind, sector, 0, 0, 0, 0]));
     }
-    let zeros: Vec<Vec<u64>> = reference::FILE_LENGTHS.iter().map(|k| vec![0; *k]).collect();
+    let zeros: Vec<Vec<i128>> = reference::FILE_LENGTHS.iter().map(|k| vec![0; *k]).collect();
     let naming = |name, records: &[Vec<u8>]| {
         let file = [vec![1, 40], records.concat(), vec![8]].concat();
         let counts = [40, records.len()];
@@ -875,6 +944,7 @@ pub fn slips() -> Vec<(&'static str, bool)> {
 
     slips.extend(nearest_slips());
     slips.extend(merging_slips());
+    slips.extend(shortage_slips());
     slips.push(("91 bytes", file().len() == 91));
     slips.push(("the printed sheet", reference::page(&file()) == PRINTED.as_bytes()));
     slips.push(("the empty page", reference::page(&[]) == b"refused 15 0\n"));
@@ -886,7 +956,7 @@ fn demand_slips() -> Vec<(&'static str, bool)> {
     let one = ONE as u64;
     let first = |final_demand: u64| {
         let given = reference::domestic_demand(2, &SHARES, &[final_demand, 900], &EXPORTS, &[0, 0], &[2]);
-        given.map_or(0, |given| given.cells[0][0])
+        given.map_or(0, |given| amounts(&given.cells)[0][0])
     };
     let inside = |amount: u64| 750_000 * amount / one;
     let (before, with) = (first(501), first(502));
@@ -935,8 +1005,9 @@ fn merging_slips() -> Vec<(&'static str, bool)> {
     let one = ONE as u64;
     let worked = table().given;
     let merged = reference::aggregate(2, std::array::from_fn(|k| &worked[k][..]), &[0b11], &[1; 8]);
-    let [x, f, e, m, v, output, g] = std::array::from_fn(|k| merged.as_ref().map_or(vec![], |given| given.cells[k].clone()));
-    let sheets = reference::coefficients(1, &x, &f, &e, &m, &v, &output, &g, &[1; 5]).map(|given| given.cells.concat());
+    let merged = merged.map_or(vec![vec![]; 8], |given| amounts(&given.cells));
+    let [x, f, e, m, v, output, g, _] = &merged[..] else { unreachable!() };
+    let sheets = reference::coefficients(1, x, f, e, m, v, output, g, &[1; 5]).map(|given| given.cells.concat());
     let right = sheets == Ok(vec![466_667, 533_333, 217_857, 365_000, 1905]);
     let shares = |cells: [u64; 2]| (cells[0] + cells[1]) / 2;
     let inside = X[1] + X[2];
@@ -944,7 +1015,33 @@ fn merging_slips() -> Vec<(&'static str, bool)> {
         ("coefficients added", X[0] * one / 1000 + X[1] * one / 2000 + X[2] * one / 1000 + X[3] * one / 2000 == 900_000 && right),
         ("import shares averaged", shares([250_000, 200_000]) == 225_000 && right),
         ("value shares averaged", shares([600_000, 500_000]) == 550_000 && right),
-        ("flows between the merged sectors left out", 1400 - inside == 700 && x == [1400]),
+        ("flows between the merged sectors left out", 1400 - inside == 700 && *x == [1400]),
+    ]
+}
+
+/// A shortage with the other sign or none, rounded otherwise, or refused.
+fn shortage_slips() -> Vec<(&'static str, bool)> {
+    // What a slip gives of a production: of each sector, from what it makes and both products of what is taken.
+    fn slip(production: [u64; 2], of: impl Fn(i128, [i128; 2]) -> i128) -> [i128; 2] {
+        [0, 1].map(|i| of(production[i].into(), [0, 1].map(|j| i128::from(D[i * 2 + j] * production[j]))))
+    }
+    let right = |production: [u64; 2], demand: [i128; 2]| {
+        let given = reference::implied_demand(2, &D, &production, &[2]);
+        given.map(|given| given.cells.concat()) == Ok(demand.to_vec())
+    };
+    let one = ONE as i128;
+    let less = |made: i128, [a, b]: [i128; 2]| made - (a + b) / one;
+    let up = |made: i128, [a, b]: [i128; 2]| less(made, [a, b + if less(made, [a, b]) < 0 { one - 1 } else { 0 }]);
+    let (whole, fraction, two) = ([0, 1000], [0, 1001], [13, 1001]);
+    let (short, down, both) = (right(whole, [-150, 760]), right(fraction, [-150, 761]), right(two, [-138, 758]));
+    vec![
+        ("a difference reversed", slip(whole, |made, taken| -less(made, taken)) == [150, -760] && short),
+        ("a shortage clamped at 0", slip(whole, |made, taken| less(made, taken).max(0)) == [0, 760] && short),
+        ("a shortage without its sign", slip(whole, |made, taken| less(made, taken).abs()) == [150, 760] && short),
+        ("a shortage refused with 10", slip(whole, less)[0] < 0 && short),
+        ("products of a shortage rounded", slip(two, |made, [a, b]| made - a / one - b / one) == [-137, 758] && both),
+        ("a shortage rounded up", slip(fraction, up) == [-151, 761] && down),
+        ("rounded when taken off", slip(fraction, |made, [a, b]| (made * one - a - b) / one) == [-150, 760] && down),
     ]
 }
 

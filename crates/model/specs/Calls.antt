@@ -67,7 +67,7 @@ module _ (n : ℕ) (d : Cells) where
   unfoldable pub priceReport : (w : Cells) (budget : ℕ) (lent : List ℕ) → Report
   priceReport w budget lent = settlingReport (transposed (at n d)) riseLimit w budget lent
 
-  -- Backwards asks 1, 2, 7, 8 (document 02, ticket 8: 10 no longer); its result: `impliedDemand n (at n d) y`
+  -- Backwards asks 1, 2, 7, 8 (until document 02, ticket 8, also 10); its result: `impliedDemand n (at n d) y`
   abbrev pub impliedChecks : (y : Cells) (lent : List ℕ) → List Check
   impliedChecks y lent = matrixChecks [] (length y ∷ lent) ++ (productionTotal n y ∷ [])
 
