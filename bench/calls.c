@@ -6,6 +6,8 @@
 
 enum { ONE = 1000000, COLUMN = 950000, AMOUNT = 1000000000, DEMAND = 2000000000, SECTORS = 40, COLUMNS = 7, MARKS = SECTORS + COLUMNS };
 
+static const uint64_t TOTAL = 1600000000000;
+
 // One round along the rows. Did it change no sector?
 static bool turn_rows(
     size_t n, const uint64_t *restrict d, const uint64_t *restrict start, uint64_t *restrict out, uint64_t *restrict work)
@@ -181,6 +183,40 @@ void c_impact(
     if (*number != 0)
         memset(out, 0, n * sizeof *out);
     memset(work, 0, n * sizeof *work);
+}
+
+// Question 8 of a given production: the first sector at which the running total is over.
+static uint8_t ask_total(size_t n, const uint64_t *production, size_t *place)
+{
+    uint64_t total = 0;
+    for (size_t i = 0; i < n; i++) {
+        if (TOTAL - total < production[i]) {
+            *place = i;
+            return 8;
+        }
+        total += production[i];
+    }
+    return 0;
+}
+
+void c_implied_demand(
+    size_t n, const uint64_t *d, size_t d_length, const uint64_t *production, size_t production_length,
+    int64_t *out, size_t out_length, uint8_t *number, size_t *place)
+{
+    (void)d_length, (void)production_length, (void)out_length;
+    *number = ask_sheet(n, d, place);
+    if (*number == 0)
+        *number = ask_total(n, production, place);
+    if (*number != 0) {
+        memset(out, 0, n * sizeof *out);
+        return;
+    }
+    for (size_t i = 0; i < n; i++) {
+        uint64_t sum = 0;
+        for (size_t j = 0; j < n; j++)
+            sum += d[i * n + j] * production[j];
+        out[i] = (int64_t)production[i] - (int64_t)(sum / ONE);
+    }
 }
 
 // Each column sum and each row sum of a sheet against their mean, in millionths.

@@ -22,6 +22,10 @@ typedef void inverting(
     uint64_t *power, size_t power_length, uint64_t *sensitivity, size_t sensitivity_length,
     uint8_t *number, size_t *place, uint32_t *rounds);
 
+typedef void implying(
+    size_t n, const uint64_t *d, size_t d_length, const uint64_t *production, size_t production_length,
+    int64_t *out, size_t out_length, uint8_t *number, size_t *place);
+
 typedef void reading(
     const uint8_t *file, size_t file_length, uint64_t *x, size_t x_length,
     uint64_t *final_demand, size_t final_demand_length, uint64_t *exports, size_t exports_length,
@@ -41,6 +45,7 @@ typedef void writing(
 settling c_production, c_price, rust_production, rust_price;
 adding c_impact, rust_impact;
 inverting c_inverse, rust_inverse;
+implying c_implied_demand, rust_implied_demand;
 reading c_read_table, rust_read_table;
 writing c_write_table, rust_write_table;
 

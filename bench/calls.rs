@@ -6,7 +6,7 @@ mod tawqeshim;
 use std::slice::{from_raw_parts, from_raw_parts_mut};
 use tawqeshim::{
     TAWQESHIM_AMOUNT_LIMIT as AMOUNT, TAWQESHIM_COLUMN_LIMIT as COLUMN, TAWQESHIM_DEMAND_LIMIT as DEMAND, TAWQESHIM_ONE as ONE,
-    TAWQESHIM_RISE_LIMIT as RISE, TAWQESHIM_SECTORS as SECTORS,
+    TAWQESHIM_PRODUCTION_LIMIT as TOTAL, TAWQESHIM_RISE_LIMIT as RISE, TAWQESHIM_SECTORS as SECTORS,
 };
 
 const COLUMNS: usize = 7;
@@ -15,6 +15,7 @@ const COLUMNS: usize = 7;
 const _: () = {
     let _ = [rust_production, rust_price, tawqeshim::tawqeshim_production, tawqeshim::tawqeshim_price];
     let _ = [rust_impact, tawqeshim::tawqeshim_impact];
+    let _ = [rust_implied_demand, tawqeshim::tawqeshim_implied_demand];
     let _ = [rust_inverse, tawqeshim::tawqeshim_inverse];
     let _ = [rust_read_table, tawqeshim::tawqeshim_read_table];
     let _ = [rust_write_table, tawqeshim::tawqeshim_write_table];
@@ -143,6 +144,28 @@ fn add(
         *amount -= less;
     }
     Ok(first.max(second))
+}
+
+fn check_total(production: &[u64]) -> Result<(), Refusal> {
+    let mut total = 0;
+    for (i, &amount) in production.iter().enumerate() {
+        if TOTAL - total < amount {
+            return Err((8, i));
+        }
+        total += amount;
+    }
+    Ok(())
+}
+
+/// The demand behind a production, below 0 where a sector is short.
+fn imply(n: usize, d: &[u64], production: &[u64], out: &mut [i64]) -> Result<(), Refusal> {
+    check_sheet(n, d)?;
+    check_total(production)?;
+    for ((row, made), left) in d.chunks_exact(n).zip(production).zip(out) {
+        let sum: u64 = row.iter().zip(production).map(|(c, x)| c * x).sum();
+        *left = *made as i64 - (sum / ONE) as i64;
+    }
+    Ok(())
 }
 
 /// Each column sum and each row sum of a sheet against their mean, in millionths.
@@ -382,6 +405,28 @@ pub unsafe extern "C" fn rust_impact(
     }
     work.fill(0);
     tell(answer, number, place, rounds);
+}
+
+#[no_mangle]
+pub unsafe extern "C" fn rust_implied_demand(
+    n: usize,
+    d: *const u64,
+    d_length: usize,
+    production: *const u64,
+    production_length: usize,
+    out: *mut i64,
+    out_length: usize,
+    number: *mut u8,
+    place: *mut usize,
+) {
+    let d = from_raw_parts(d, d_length);
+    let production = from_raw_parts(production, production_length);
+    let out = from_raw_parts_mut(out, out_length);
+    let answer = imply(n, d, production, out);
+    if answer.is_err() {
+        out.fill(0);
+    }
+    (*number, *place) = answer.err().unwrap_or((0, 0));
 }
 
 #[no_mangle]

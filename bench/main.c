@@ -17,17 +17,19 @@ static const struct {
     settling *production, *price;
     inverting *inverse;
     adding *impact;
+    implying *implied_demand;
     reading *read_table;
     writing *write_table;
 } ways[WAYS] = {
-    {"ours", tawqeshim_production, tawqeshim_price, tawqeshim_inverse, tawqeshim_impact, tawqeshim_read_table, tawqeshim_write_table},
-    {"C", c_production, c_price, c_inverse, c_impact, c_read_table, c_write_table},
-    {"Rust", rust_production, rust_price, rust_inverse, rust_impact, rust_read_table, rust_write_table},
+    {"ours", tawqeshim_production, tawqeshim_price, tawqeshim_inverse, tawqeshim_impact, tawqeshim_implied_demand, tawqeshim_read_table,
+        tawqeshim_write_table},
+    {"C", c_production, c_price, c_inverse, c_impact, c_implied_demand, c_read_table, c_write_table},
+    {"Rust", rust_production, rust_price, rust_inverse, rust_impact, rust_implied_demand, rust_read_table, rust_write_table},
 };
 
-// Those up to IMPACT settle, and LAPACK has those up to INVERSE; the others are about files.
-enum call { PRODUCTION, PRICE, INVERSE, IMPACT, READ, WRITE, CALLS };
-static const char *const call_names[CALLS] = {"production", "price", "inverse", "impact", "read_table", "write_table"};
+// Those up to IMPACT settle, and LAPACK has those up to INVERSE; those from READ on are about files.
+enum call { PRODUCTION, PRICE, INVERSE, IMPACT, IMPLIED, READ, WRITE, CALLS };
+static const char *const call_names[CALLS] = {"production", "price", "inverse", "impact", "implied", "read_table", "write_table"};
 
 // What a call is handed.
 struct input {
@@ -36,6 +38,7 @@ struct input {
     uint32_t budget;
     uint64_t d[CELLS], start[2][SECTORS]; // a demand, and direct rises
     uint64_t after[SECTORS];              // the demand with a scheme
+    uint64_t production[SECTORS];         // what the demand settles at
     uint8_t file[FILE_BYTES];
     size_t length;
     uint64_t x[CELLS], columns[COLUMNS][SECTORS]; // the table of the file, the adjustment and the rises last
@@ -47,6 +50,7 @@ struct output {
     size_t place, sectors, named, length;
     uint32_t rounds;
     uint64_t sheet[CELLS], columns[COLUMNS][SECTORS], work[MARKS];
+    int64_t demand[SECTORS];
     uint8_t file[FILE_BYTES];
 };
 
@@ -69,6 +73,8 @@ static void run(enum call call, int way, const struct input *in, struct output *
         ways[way].impact(
             n, in->d, n * n, in->start[0], n, in->after, n, in->budget, c[0], n, out->work, n, &out->number,
             &out->place, &out->rounds);
+    else if (call == IMPLIED)
+        ways[way].implied_demand(n, in->d, n * n, in->production, n, out->demand, n, &out->number, &out->place);
     else
         (call == PRICE ? ways[way].price : ways[way].production)(
             n, in->d, n * n, in->start[call == PRICE], n, in->budget, c[0], n, out->work, n, &out->number, &out->place,
@@ -210,6 +216,26 @@ static int compare_refused(const struct input *in)
     seen += compare(IMPACT, &bad).number == 8;
     bad.after[sector] = in->start[0][sector] / 2;
     seen += compare(IMPACT, &bad).number == 17;
+    return seen;
+}
+
+// What the demand settles at; and productions near it, in which a sector makes nothing or the total is over.
+static int compare_implied(struct input *in)
+{
+    static struct input other;
+    int seen = 0;
+    struct output settled = compare(PRODUCTION, in);
+    memcpy(in->production, settled.columns[0], sizeof in->production);
+    compare(IMPLIED, in);
+    for (size_t i = 0; i < in->n; i++) {
+        other = *in;
+        other.production[i] = 0;
+        compare(IMPLIED, &other);
+        other.production[i] = 1600000000001;
+        seen += compare(IMPLIED, &other).number == 8;
+        other.d[i] += 950001;
+        seen += compare(IMPLIED, &other).number == 7;
+    }
     return seen;
 }
 
@@ -417,7 +443,7 @@ int main(void)
     full_file(&file);
     for (int k = 0; k < SHEETS; k++) {
         add_scheme(&sheets[k]);
-        refused += compare_refused(&sheets[k]);
+        refused += compare_refused(&sheets[k]) + compare_implied(&sheets[k]);
         for (enum call call = PRODUCTION; LAPACK && call <= INVERSE; call++)
             compare_lapack(call, &sheets[k]);
     }
@@ -432,6 +458,8 @@ int main(void)
         for (int k = 0; k < (call == INVERSE ? PLAIN : SHEETS); k++)
             row(call, &sheets[k]);
     row(IMPACT, &sheets[2]);
+    for (int k = 1; k <= 2; k++)
+        row(IMPLIED, &sheets[k]);
     for (enum call call = READ; call < CALLS; call++)
         row(call, &file);
     return 0;
