@@ -397,11 +397,12 @@ fn short_production(rng: &mut Rng, n: usize, d: &[u64]) -> Vec<u64> {
 }
 
 fn implied_case(rng: &mut Rng) -> Case {
-    let n = if rng.chance(1, 4) { size(rng) } else { 1 + rng.below(5) };
+    // A single sector is never short.
+    let n = if rng.chance(1, 4) { size(rng) } else { 1 + rng.below(7) };
     let mut d = domestic(rng, n);
     let drawn = match rng.below(8) {
         0 | 1 if n <= 6 => settled_production(rng, n, &d),
-        2..=5 => Some(short_production(rng, n, &d)),
+        2..=6 => Some(short_production(rng, n, &d)),
         _ => None,
     };
     let production = drawn.unwrap_or_else(|| productions(rng, n));

@@ -210,11 +210,12 @@ fn tell_numbers(tally: &Tally) -> u64 {
     unseen
 }
 
-/// Tells how many of the accepted productions leave a sector short. Returns 1 if fewer than a third do.
+/// Tells how many of the productions that are given, refused ones among them, leave a sector short. Returns 1 if fewer than
+/// a third do.
 fn tell_shortages(tally: &Tally) -> u64 {
-    let accepted = tally.seen[Call::ImpliedDemand as usize][0];
-    println!("shortages: {} of {accepted} accepted productions leave a sector short", tally.short);
-    let few = 3 * tally.short < accepted;
+    let given: u64 = tally.seen[Call::ImpliedDemand as usize].iter().sum();
+    println!("shortages: {} of {given} given productions leave a sector short", tally.short);
+    let few = 3 * tally.short < given;
     if few {
         println!("shortages: fewer than a third");
     }

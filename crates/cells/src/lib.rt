@@ -2,8 +2,7 @@
 use model::Answer;
 use model::ONE;
 ghost use mathlib.Core.Path.{_≡_};
-ghost use Prim.Native.Nat.{ℕ, _*_, _^_, _<_, _≤_, max};
-ghost use lib.IntN.{pos, subℕ};
+ghost use Prim.Native.Nat.{ℕ, _*_, _<_, _≤_, max};
 ghost use lib.ListN.{length, replicate};
 ghost use Rattle.model.specs.Numbers.{at, cell, oriented, transposed};
 ghost use Rattle.model.specs.Rounds.{intermediate, weighted};
@@ -20,14 +19,6 @@ pub fn larger(a: u32, b: u32) -> u32
     a
 }
 
-// The difference of two amounts, below 0 where the second is larger.
-pub fn difference(a: u64, b: u64) -> i64
-    requires { ⌜ (a < 2 ^ 63) × (b < 2 ^ 63) ⌝ }
-    ensures { λ r. ⌜ r ≡ subℕ a b ⌝ }
-{
-    a as i64 - b as i64
-}
-
 // Sets every cell to 0.
 pub fn fill_zero(s: &mut [u64])
     ensures { λ _. ⌜ now (s .exit) ≡ replicate (length (now (s .entry))) 0 ⌝ }
@@ -36,15 +27,6 @@ pub fn fill_zero(s: &mut [u64])
     while i < s.len() {
         s[i] = 0;
         i += 1;
-    }
-}
-
-// The same of signed cells.
-pub fn fill_zero_signed(s: &mut [i64])
-    ensures { λ _. ⌜ now (s .exit) ≡ replicate (length (now (s .entry))) (pos 0) ⌝ }
-{
-    for i in 0..s.len() {
-        s[i] = 0;
     }
 }
 

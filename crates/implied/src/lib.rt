@@ -1,10 +1,10 @@
 // The demand for domestic goods behind a given production.
-use cells::difference;
-use cells::fill_zero_signed;
 use cells::intermediate_use;
 use checks::check_domestic;
 use checks::total_within;
 use model::Answer;
+use signed_cells::difference;
+use signed_cells::fill_zero_signed;
 ghost use mathlib.Core.List.{[], _∷_};
 ghost use mathlib.Core.Path.{_≡_};
 ghost use Prim.Native.Nat.{ℕ, _*_, _<_, _≤_};

@@ -466,6 +466,8 @@ shortageRows =
     ∷ impliedOf 2 d (1000 ∷ 0 ∷ []) ⊳ (accepts [] leavingSigned ((pos 925 ∷ minus 240 ∷ []) ∷ []))
     -- the largest shortage
     ∷ impliedOf 2 (0 ∷ 950000 ∷ 0 ∷ 0 ∷ []) (0 ∷ 1600000000000 ∷ []) ⊳ (accepts [] leavingSigned ((minus 1520000000000 ∷ pos 1600000000000 ∷ []) ∷ []))
+    -- 2 of the production's length too, before 7
+    ∷ impliedOf 2 tooMuch (0 ∷ []) ⊳ (refuses 0 2 0 leaving leaves 0 0)
     -- document 01's call: P4 to P6; 10 where a unit is lacking and not where nothing is left, at the first sector that is short, after 8
     ∷ unsignedOf 2 d (999 ∷ 1999 ∷ []) ⊳ (accepts [] leaving (f ∷ []))
     ∷ unsignedOf 2 d (1000 ∷ 2000 ∷ []) ⊳ (accepts [] leaving (f ∷ []))
@@ -474,6 +476,7 @@ shortageRows =
     ∷ unsignedOf 2 d (161 ∷ 1000 ∷ []) ⊳ (refuses 0 10 0 leaving leaves 0 0)
     ∷ unsignedOf 2 d (1000 ∷ 0 ∷ []) ⊳ (refuses 0 10 1 leaving leaves 0 0)
     ∷ unsignedOf 2 d (0 ∷ 1600000000001 ∷ []) ⊳ (refuses 0 8 1 leaving leaves 0 0)
+    ∷ unsignedOf 2 tooMuch (0 ∷ []) ⊳ (refuses 0 2 0 leaving leaves 0 0)
     ∷ []
 
 -- Theorem, for the reader: every case above is answered as stated

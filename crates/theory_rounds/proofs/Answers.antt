@@ -9,7 +9,7 @@ use native.Mathlib.Nat.{le-refl, lt-suc-self}
 use borrow.Author.Tests.{le-leb, lt-leb, leb-true}
 use lib.Dec.{leb}
 use lib.ListN.{length, replicate}
-use Rattle.model.specs.Numbers.{one, sum, cell, at}
+use Rattle.model.specs.Numbers.{one, sum, cell}
 use Rattle.model.specs.Table.{sectorLimit}
 use Rattle.model.specs.Rounds.{changes, settling, settled, Settles}
 use Rattle.model.specs.Checks.{Report, Check, accepts, refuses, report, roundsOf, output, verdict, size, lengths, amountLimit, inducedAmounts, bounded, productionLimit, productionTotal, single, settles}

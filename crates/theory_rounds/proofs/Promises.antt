@@ -3,25 +3,25 @@
 use mathlib.Core.Path.{_≡_, refl, sym, ap, _∙_}
 use mathlib.Core.Bool.{Bool, true, false, not, true≢false}
 use mathlib.Core.List.{List, [], _∷_, _++_}
-use Prim.Native.Nat.{ℕ, suc, _*_, _≤_, _<_}
+use Prim.Native.Nat.{ℕ, suc, _+_, _*_, _-_, _≤_, _<_}
 use native.Mathlib.Omega.{arith}
-use native.Mathlib.Nat.{le-refl, le-trans}
+use native.Mathlib.Nat.{le-refl, le-trans, le-of-eq}
 use borrow.Author.Tests.{le-leb, leb-true, eq-eqb}
 use lib.Dec.{eqb}
 use lib.IntN.{ℤ, pos}
 use lib.ListN.{length}
-use Rattle.model.specs.Numbers.{signed, sum, largest, at, cell, transposed, oriented}
+use Rattle.model.specs.Numbers.{signed, one, sum, largest, at, cell, transposed, oriented}
 use Rattle.model.specs.Table.{sectorLimit}
 use Rattle.model.specs.Rounds.{weighted, intermediate, rounds, Settles, shortfall, settling, settled, impliedDemand}
-use Rattle.model.specs.Checks.{Report, accepts, verdict, signedOutput, demandLimit, productionLimit, productionTotal}
+use Rattle.model.specs.Checks.{Report, accepts, signedOutput, columnLimit, demandLimit, productionLimit, productionTotal}
 use Rattle.model.specs.Calls.{matrixChecks, productionReport, impliedChecks, impliedReport}
 use Rattle.model.specs.Promises.{AcceptedMatrix, Distinguishes, Accurate, AccuratePrices, Returns, NotAbove}
 use Rattle.model.specs.Contracts.{Implied}
 use Rattle.model.specs.Unsigned.{demandLeft, unsignedReport, unsignedDemand}
 use Rattle.theory_rounds.specs.Bounds.{sumLimit}
-use Rattle.theory.proofs.Sums.{sum-most, sum-part, sum-cell, largest-le, largest-cell}
+use Rattle.theory.proofs.Sums.{sum-mono, sum-add, sum-const, sum-scale, sum-most, sum-part, sum-cell, largest-le, largest-cell}
 use Rattle.theory_rounds.proofs.Gauge.{total-gauge, largest-gauge}
-use Rattle.theory_rounds.proofs.Rounds.{equal-starts, settles-length, lowest, implied-fixed, forward-back, unsigned-implied}
+use Rattle.theory_rounds.proofs.Rounds.{intermediate-within, equal-starts, settles-length, lowest, implied-fixed, forward-back, unsigned-implied}
 use Rattle.theory_rounds.proofs.Accuracy.{not-above, lacks-less, rounds-bounded, weighted-bounded}
 use Rattle.theory.proofs.Verdicts.{accepted-all, all-accepted, all-pass-parts, number-passes, output-given-of, pass-on, matrix-accepted, unless-told}
 use Rattle.theory_rounds.proofs.Answers.{Started, accepted-settled}
@@ -84,6 +84,24 @@ module _ {n : ℕ} {d : List ℕ} (A : AcceptedMatrix n d) where
   pub implied-fits : (y : List ℕ) → sum n (cell y) ≤ productionLimit → (i : ℕ) → i < n → weighted n (at n d) (cell y) i ≤ sumLimit
   implied-fits y h i l =
       omega (arith, sum-cell n (weighted n (at n d) (cell y)) i l, total-gauge n (at n d) (A .low) .shrinks (cell y))
+
+  -- ---- shortages: industry takes at most 95 of 100 units of all production together
+  industry-takes : (y : List ℕ) → one * sum n (intermediate n (at n d) (cell y)) ≤ columnLimit * sum n (cell y)
+  industry-takes y =
+      le-trans (le-of-eq (sym (sum-scale n one (intermediate n (at n d) (cell y)))))
+      (le-trans (sum-mono n (λ i h. intermediate-within n (at n d) (cell y) i)) (total-gauge n (at n d) (A .low) .shrinks (cell y)))
+
+  -- Theorem, for the reader: no sector is short by more than 95 of 100 units of the largest total, which are 1,520,000,000,000
+  pub largest-shortage : (y : List ℕ) → sum n (cell y) ≤ productionLimit → (i : ℕ) → i < n
+      → one * (intermediate n (at n d) (cell y) i - cell y i) ≤ columnLimit * productionLimit
+  largest-shortage y h i l = omega (arith, industry-takes y, sum-cell n (intermediate n (at n d) (cell y)) i l)
+
+  -- Theorem, for the reader: sectors are never all short
+  pub not-all-short : (y : List ℕ) → ((i : ℕ) → i < n → cell y i < intermediate n (at n d) (cell y) i) → ⊥
+  not-all-short y p =
+      let some = A .some in
+      let more = sum-mono n {f = λ i. cell y i + 1} {g = intermediate n (at n d) (cell y)} (λ i h. omega (arith, p i h)) in
+      omega (arith, industry-takes y, more, sum-add n (cell y) (λ _. 1), sum-const n 1)
 
 -- Demand 2: a demand behind a production is that of every start that settles there
 pub returns : (n : ℕ) (d y : List ℕ) → Returns n d y (impliedDemand n (at n d) y)

@@ -1,6 +1,6 @@
 -- `implied::subtract` meets its contract: the cells below i are those of the demand. Assumes nothing.
 use mathlib.Core.Path.{ap, _∙_}
-use Prim.Native.Nat.{ℕ, _-_}
+use Prim.Native.Nat.{_-_}
 use native.Mathlib.Omega.{arith}
 use lib.IntN.{pos, subℕ}
 use mir.Syntax.{w64}

@@ -1,12 +1,12 @@
--- `cells::fill_zero_signed` meets its contract: the cells below i are 0. Assumes nothing.
+-- `signed_cells::fill_zero_signed` meets its contract: the cells below i are 0. Assumes nothing.
 use mathlib.Core.Path.{_≡_, refl}
 use Prim.Native.Nat.{_-_}
 use native.Mathlib.Omega.{arith}
 use lib.IntN.{pos}
 use lib.ListN.{length}
 use Rattle.theory.proofs.Lists.{FrontOf, front-none, front-set, front-filled}
-use Rattle.cells.proofs.fill_zero_signed.Statement.{statement}
-use Rattle.cells.proofs.fill_zero_signed.Tie as tie
+use Rattle.signed_cells.proofs.fill_zero_signed.Statement.{statement}
+use Rattle.signed_cells.proofs.fill_zero_signed.Tie as tie
 
 abbrev Inv-loop : tie.InvT-loop
 Inv-loop s₀ i₀ i-end s i = (i-end ≡ length s₀) × FrontOf (pos 0) (length s₀) (λ _. pos 0) s i

@@ -1,4 +1,4 @@
--- `cells::difference` meets its contract: both numbers and their difference fit a signed word. Assumes nothing.
+-- `signed_cells::difference` meets its contract: both numbers and their difference fit a signed word. Assumes nothing.
 use mathlib.Core.Path.{_≡_, ap, subst⁻¹, _∙_}
 use Prim.Native.Nat.{ℕ, _^_, _<_}
 use native.Mathlib.Omega.{arith}
@@ -8,8 +8,8 @@ use mir.Syntax.{w64}
 use mir.Val.{SFits, toZ, ofZ}
 use mir.ValLaws.{toZ-pos, toZ-ofZ}
 use Rattle.theory.proofs.Signed.{difference-pos, difference-small}
-use Rattle.cells.proofs.difference.Statement.{statement}
-use Rattle.cells.proofs.difference.Tie as tie
+use Rattle.signed_cells.proofs.difference.Statement.{statement}
+use Rattle.signed_cells.proofs.difference.Tie as tie
 
 made : (x y : ℕ) → x < 2 ^ 63 → y < 2 ^ 63 → toZ w64 x -ℤ toZ w64 y ≡ subℕ x y
 made x y h l = ap (λ (z : ℤ). z -ℤ toZ w64 y) (toZ-pos w64 x h) ∙ ap (λ (z : ℤ). pos x -ℤ z) (toZ-pos w64 y l) ∙ difference-pos x y
