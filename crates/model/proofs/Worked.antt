@@ -460,6 +460,8 @@ shortageRows =
     -- what industry takes is rounded down before it is taken off, of a sector that is short too: 150.15 and 240.24. A difference rounded down would
     -- be -151
     impliedOf 2 d (0 ∷ 1001 ∷ []) ⊳ (accepts [] leavingSigned ((minus 150 ∷ pos 761 ∷ []) ∷ []))
+    -- of both products together, 0.975 and 150.15: rounded by themselves they would leave -137
+    ∷ impliedOf 2 d (13 ∷ 1001 ∷ []) ⊳ (accepts [] leavingSigned ((minus 138 ∷ pos 758 ∷ []) ∷ []))
     -- exactly nothing is left, one unit is lacking; the second sector is short
     ∷ impliedOf 2 d (162 ∷ 1000 ∷ []) ⊳ (accepts [] leaving leaves 0 722)
     ∷ impliedOf 2 d (161 ∷ 1000 ∷ []) ⊳ (accepts [] leavingSigned ((minus 1 ∷ pos 722 ∷ []) ∷ []))
