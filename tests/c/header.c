@@ -563,6 +563,6 @@ int main(void) {
     files();
     by_names();
     if (failures == 0)
-        printf("header: constants, questions, rounding, demands, merging and names as the library has them\n");
+        printf("header: constants, questions, rounding, demands, shortages, merging and names as the library has them\n");
     return failures != 0;
 }
