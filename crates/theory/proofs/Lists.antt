@@ -1,7 +1,7 @@
 -- Lists written from the front, lists made by a rule, searches, and the test for sameness. Assumes nothing.
 use mathlib.Core.Bool.{Bool, true, false, _&&_, false≢true}
 use mathlib.Core.List.{List, [], _∷_}
-use mathlib.Core.Path.{_≡_, refl, sym, ap, _∙_}
+use mathlib.Core.Path.{_≡_, refl, sym, ap, ap₂, _∙_}
 use Prim.Native.Nat.{ℕ, zero, suc, _+_, _<_, _≤_, suc-le-suc, zero-le}
 use native.Mathlib.Nat.{not-suc-le-zero, le-of-suc-le-suc, zero-lt-suc, ne-of-lt, lt-of-lt-of-le, le-refl, le-step, lt-suc-self}
 use native.Mathlib.Decide.{decLt}
@@ -21,6 +21,10 @@ use Rattle.theory.proofs.Sums.{upto}
 pub length-tabulate : {A : Type 0} (n : ℕ) (f : ℕ → A) → length (tabulate n f) ≡ n
 length-tabulate zero f = refl
 length-tabulate (suc n) f = ap suc (length-tabulate n (λ k. f (suc k)))
+
+pub tabulate-cong : {A : Type 0} (n : ℕ) {f g : ℕ → A} → ((k : ℕ) → k < n → f k ≡ g k) → tabulate n f ≡ tabulate n g
+tabulate-cong zero p = refl
+tabulate-cong (suc n) p = ap₂ _∷_ (p 0 (zero-lt-suc n)) (tabulate-cong n (λ k h. p (suc k) (suc-le-suc h)))
 
 -- `none` is what is read past the end of a list
 module _ {A : Type 0} (none : A) where
@@ -55,9 +59,6 @@ module _ {A : Type 0} (none : A) where
   filled-of n i l e h p =
       agreed-of n n l (replicate n none) e (length-replicate n none) (le-refl n)
       (λ k lt. p k (lt-of-lt-of-le lt h) ∙ sym (getD-replicate n k none none lt))
-
-  pub tabulate-cong-of : (n : ℕ) {f g : ℕ → A} → ((k : ℕ) → k < n → f k ≡ g k) → tabulate n f ≡ tabulate n g
-  tabulate-cong-of n {f} {g} p = tabulated-of n n g (tabulate n f) (length-tabulate n f) (le-refl n) (λ k h. made-tabulate n f k h ∙ p k h)
 
   -- a loop that fills a list of n cells from the front with f, from i = 0
   pub record FrontOf (n : ℕ) (f : ℕ → A) (l : List A) (i : ℕ) : Type 0 where
@@ -102,9 +103,6 @@ agreed = agreed-of 0
 
 pub tabulated : (n i : ℕ) (f : ℕ → ℕ) (l : List ℕ) → length l ≡ n → n ≤ i → Agree l i f → l ≡ tabulate n f
 tabulated = tabulated-of 0
-
-pub tabulate-cong : (n : ℕ) {f g : ℕ → ℕ} → ((k : ℕ) → k < n → f k ≡ g k) → tabulate n f ≡ tabulate n g
-tabulate-cong = tabulate-cong-of 0
 
 pub zeroed : (n i : ℕ) (l : List ℕ) → length l ≡ n → n ≤ i → Agree l i (λ _. 0) → l ≡ replicate n 0
 zeroed = filled-of 0

@@ -8,9 +8,9 @@ use native.Mathlib.Nat.{add-zero, sub-zero}
 use native.Mathlib.Omega.{arith}
 use borrow.Author.Tests.{le-ltb, ltb-false}
 use lib.Dec.{ltb}
-use lib.IntN.{ℤ, pos, negsuc, subℕ, _-ℤ_}
+use lib.IntN.{ℤ, pos, negsuc, natAbs, subℕ, _-ℤ_}
 use lib.ListN.{length, getD, length-map, List·getD-map}
-use lib.Signed.{mag}
+use lib.Signed.{mag, nonNeg}
 use Rattle.model.specs.Numbers.{signed, cell}
 
 -- a difference by whether it is below 0
@@ -34,17 +34,9 @@ difference-small a b limit ha hb = split (ltb a b)
 pub difference-is : (a b g : ℕ) → subℕ a b ≡ pos g ↔ a ≡ g + b
 difference-is a b g = (split (ltb a b) refl, λ e. ap (by-sign a b) (le-ltb a b (omega (arith, e))) ∙ ap pos (omega (arith, e)))
   where
-    magnitude : ℤ → ℕ
-    magnitude (pos k) = k
-    magnitude (negsuc k) = 0
-
-    above : ℤ → Bool
-    above (pos k) = true
-    above (negsuc k) = false
-
     split : (t : Bool) → ltb a b ≡ t → by-sign a b t ≡ pos g → a ≡ g + b
-    split true q e = absurd (false≢true (ap above e))
-    split false q e = let left : a - b ≡ g = ap magnitude e in omega (arith, left, ltb-false a b q)
+    split true q e = absurd (false≢true (ap nonNeg e))
+    split false q e = let left : a - b ≡ g = ap natAbs e in omega (arith, left, ltb-false a b q)
 
 -- ---- numbers as signed ones
 pub length-signed : (g : List ℕ) → length (signed g) ≡ length g
