@@ -231,9 +231,9 @@ static int compare_implied(struct input *in)
         other = *in;
         other.production[i] = 0;
         compare(IMPLIED, &other);
-        other.production[i] = 1600000000001;
+        other.production[i] = TAWQESHIM_PRODUCTION_LIMIT + 1;
         seen += compare(IMPLIED, &other).number == 8;
-        other.d[i] += 950001;
+        other.d[i] += TAWQESHIM_COLUMN_LIMIT + 1;
         seen += compare(IMPLIED, &other).number == 7;
     }
     return seen;

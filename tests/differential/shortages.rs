@@ -2,10 +2,10 @@
 //! against document 01's call, the library's own production and the total. The reference has no part in it.
 
 use crate::calls::{by_library, number_seen, Call, Case, Outcome};
-use crate::reference::{amounts, DEMAND_LIMIT, ONE};
+use crate::reference::{amounts, COLUMN_LIMIT, DEMAND_LIMIT, ONE, PRODUCTION_LIMIT};
 
-/// The largest shortage: of a sector that makes nothing another, which makes 1,600,000,000,000, takes 95 in 100 of that.
-const LARGEST: i128 = 1_520_000_000_000;
+/// The largest shortage: of a sector that makes nothing another, which makes the largest total, takes 95 in 100 of that.
+const LARGEST: i128 = (PRODUCTION_LIMIT * COLUMN_LIMIT / ONE) as i128;
 
 /// The most sectors of a demand that is settled again.
 const SETTLED: usize = 8;

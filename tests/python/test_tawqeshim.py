@@ -64,6 +64,7 @@ class Refusing(unittest.TestCase):
 
 class Refusals(Refusing):
     def test_every_question(self):
+        # but 10, which is reserved
         self.refused(1, 0, t.inverse, [])
         self.refused(1, 0, t.coefficients, [], [], [], [], [], [])
         self.refused(1, 0, t.production, [0] * 41 * 41, [0] * 41)

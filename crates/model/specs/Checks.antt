@@ -89,9 +89,11 @@ verdict (q ∷ qs) ks =
 abbrev pub outputOf : {A : Type 0} (none : A) → Report → ℕ → List A → List A
 outputOf none r len result = cond (r .accepted) result (replicate len none)
 
+-- of numbers
 abbrev pub output : Report → ℕ → Cells → Cells
 output = outputOf 0
 
+-- and of signed numbers (document 02, ticket 8)
 abbrev pub signedOutput : Report → ℕ → SignedCells → SignedCells
 signedOutput = outputOf (pos 0)
 

@@ -14,7 +14,7 @@ Cells = List ℕ
 abbrev pub Sheet : Type 0
 Sheet = ℕ → ℕ → ℕ
 
--- the cells of a slice of signed numbers, which may be below 0: `pos k` is k, and `negsuc k` is -(k + 1)
+-- the cells of a slice of signed numbers, which may be below 0 (document 02, ticket 8): `pos k` is k, and `negsuc k` is -(k + 1)
 abbrev pub SignedCells : Type 0
 SignedCells = List ℤ
 

@@ -85,6 +85,7 @@ fn rise_lent(d: &[u64], w: &[u64], budget: u32) {
     show_slices(&out, &work);
 }
 
+// The demand behind a production at the worked matrix.
 fn imply(name: &[u8], first: u64, second: u64) {
     show_word(name);
     imply_lent(&D, &[first, second]);

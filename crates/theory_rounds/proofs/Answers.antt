@@ -69,16 +69,13 @@ pub record Given (n : ℕ) (d y lent : List ℕ) : Type 0 where
   pub slices : Each n lent
   pub total : sum n (cell y) ≤ productionLimit
 
-pub given : (n : ℕ) (d y lent : List ℕ) → AllPass (impliedChecks n d y lent) → Given n d y lent
-given n d y lent p =
-    let r = all-pass-parts (matrixChecks n d [] (length y ∷ lent)) (productionTotal n y ∷ []) p in
-    let m = accepted-matrix n d [] (length y ∷ lent) (r .0) in
-    record { matrix = m .0; cells = m .1 .0; slices = m .1 .1; total = whole-total n y (r .1 .0) }
-
 -- that is, of an accepted call of implied demand
 pub accepted-implied : (n : ℕ) (d y lent : List ℕ) → impliedReport n d y lent .accepted ≡ true → Given n d y lent
 unfolding impliedReport
-accepted-implied n d y lent a = given n d y lent (accepted-all (impliedChecks n d y lent) [] a)
+accepted-implied n d y lent a =
+    let r = all-pass-parts (matrixChecks n d [] (length y ∷ lent)) (productionTotal n y ∷ []) (accepted-all (impliedChecks n d y lent) [] a) in
+    let m = accepted-matrix n d [] (length y ∷ lent) (r .0) in
+    record { matrix = m .0; cells = m .1 .0; slices = m .1 .1; total = whole-total n y (r .1 .0) }
 
 module _ (n : ℕ) (d : List ℕ) (c : ℕ → ℕ → ℕ) (limit : ℕ) (s : List ℕ) (budget : ℕ) where
   -- an accepted call: what its checks say, and that the rounds settle at what it gives

@@ -1,13 +1,13 @@
 -- What the papers promise of an accepted domestic matrix. Production goes along its rows, by the total; prices down its columns, by the
 -- largest; each is an instance of one law over a gauge. Assumes nothing.
 use mathlib.Core.Path.{_≡_, refl, sym, ap, _∙_}
-use mathlib.Core.Bool.{Bool, true, false, not, true≢false}
+use mathlib.Core.Bool.{Bool, true, false}
 use mathlib.Core.List.{List, [], _∷_, _++_}
 use Prim.Native.Nat.{ℕ, suc, _+_, _*_, _-_, _≤_, _<_}
 use native.Mathlib.Omega.{arith}
 use native.Mathlib.Nat.{le-refl, le-trans, le-of-eq}
 use borrow.Author.Tests.{le-leb, leb-true, eq-eqb}
-use lib.Dec.{eqb}
+use lib.Dec.{lit≤}
 use lib.IntN.{ℤ, pos}
 use lib.ListN.{length}
 use Rattle.model.specs.Numbers.{signed, one, sum, largest, at, cell, transposed, oriented}
@@ -23,7 +23,7 @@ use Rattle.theory.proofs.Sums.{sum-mono, sum-add, sum-const, sum-scale, sum-mos
 use Rattle.theory_rounds.proofs.Gauge.{total-gauge, largest-gauge}
 use Rattle.theory_rounds.proofs.Rounds.{intermediate-within, equal-starts, settles-length, lowest, implied-fixed, forward-back, unsigned-implied}
 use Rattle.theory_rounds.proofs.Accuracy.{not-above, lacks-less, rounds-bounded, weighted-bounded}
-use Rattle.theory.proofs.Verdicts.{accepted-all, all-accepted, all-pass-parts, number-passes, output-given-of, pass-on, matrix-accepted, unless-told}
+use Rattle.theory.proofs.Verdicts.{accepted-all, all-accepted, all-pass-parts, all-pass-both, not-told, output-given-of, matrix-accepted, unless-told}
 use Rattle.theory_rounds.proofs.Answers.{Started, accepted-settled}
 
 module _ {n : ℕ} {d : List ℕ} (A : AcceptedMatrix n d) where
@@ -116,9 +116,10 @@ pub forward-then-back : (n : ℕ) (d f : List ℕ) (budget : ℕ) (lent : List �
     → (impliedReport n d (settled n (at n d) f budget) (n ∷ []) ≡ accepts []) × (impliedDemand n (at n d) (settled n (at n d) f budget) ≡ signed f)
 unfolding productionReport impliedReport
 forward-then-back n d f budget lent a = (
-  pass-on (matrixChecks n d [] (length y ∷ n ∷ [])) (productionTotal n y ∷ []) []
+  all-accepted (impliedChecks n d y (n ∷ [])) []
+      (all-pass-both (matrixChecks n d [] (length y ∷ n ∷ [])) (productionTotal n y ∷ [])
       (matrix-accepted n d [] (length y ∷ n ∷ []) (s .matrix) refl (rw (eq-eqb n (length y) (sym (settles-length n (at n d) (s .start) σ)), eq-eqb n n refl)))
-      ∙ all-accepted (productionTotal n y ∷ []) [] (λ i h. le-leb _ _ (le-trans (sum-part (suc i) n (cell y) h) total), tt),
+      (λ i h. le-leb _ _ (le-trans (sum-part (suc i) n (cell y) h) total), tt)),
   returns n d y f (settling n (at n d) f budget) (s .start) σ,
 )
   where
@@ -154,8 +155,7 @@ same-answer n d y lent = unless-told (impliedChecks n d y lent) (demandLeft n (a
 -- and 10 does not occur
 pub never-ten : (n : ℕ) (d y lent : List ℕ) → impliedReport n d y lent .number ≡ 10 → ⊥
 unfolding impliedReport
-never-ten n d y lent e =
-    true≢false (sym (number-passes (λ k. not (eqb k 10)) (impliedChecks n d y lent) [] refl refl) ∙ ap (λ (k : ℕ). not (eqb k 10)) e)
+never-ten n d y lent = not-told 10 (impliedChecks n d y lent) [] [] refl (lit≤ tt) (λ _. tt)
 
 -- a call of implied demand that answers and leaves what the definitions say keeps these promises
 pub implied : (n : ℕ) (d y : List ℕ) (out₀ : List ℤ) {r : Report} {out : List ℤ}

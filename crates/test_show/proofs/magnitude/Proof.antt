@@ -1,7 +1,7 @@
 -- `test_show::magnitude` is safe: a number below 0 is turned over at -1, so that the lowest fits too. Assumes nothing.
-use mathlib.Core.Bool.{Bool, true, false, cond, false≢true, true≢false}
-use mathlib.Core.Path.{_≡_, sym, ap, subst⁻¹, _∙_}
-use Prim.Native.Nat.{suc, _-_, _^_, _<_}
+use mathlib.Core.Bool.{true, false, false≢true, true≢false}
+use mathlib.Core.Path.{_≡_, sym, subst⁻¹, _∙_}
+use Prim.Native.Nat.{suc, _^_, _<_}
 use native.Mathlib.Omega.{arith}
 use borrow.Author.Needs.{needs}
 use borrow.Author.Tests.{le-ltb}
@@ -11,6 +11,7 @@ use lib.Signed.{mag, ltZ, nonNeg}
 use mir.Syntax.{w64}
 use mir.Val.{SFits, toZ, ofZ}
 use mir.ValLaws.{toZ-ofZ}
+use Rattle.theory.proofs.Signed.{difference-is}
 use Rattle.test_show.proofs.magnitude.Statement.{statement}
 use Rattle.test_show.proofs.magnitude.Tie as tie
 
@@ -30,8 +31,7 @@ above (negsuc k) e h = absurd (true≢false e)
 turned : (z : ℤ) → ltZ z (pos 0) ≡ true → mag z < 2 ^ 63 → Above (negsuc 0 -ℤ z)
 turned (pos k) e h = absurd (false≢true (sym (le-ltb k 0 (omega arith)) ∙ e))
 turned (negsuc k) e h =
-    subst⁻¹ Above (ap (λ (t : Bool). cond t (negsuc (1 - suc (suc k))) (pos (suc k - 1))) (le-ltb (suc k) 1 (omega arith)))
-    (record { sign = tt; below = omega arith })
+    subst⁻¹ Above (difference-is (suc k) 1 k .1 (omega arith)) (record { sign = tt; below = h })
 
 fits : (z : ℤ) → Above z → SFits w64 z
 fits (pos k) a = record { sfits = a .below }
@@ -44,17 +44,20 @@ small : (z : ℤ) → SFits w64 z → mag (back z) < 2 ^ 63
 small z f = subst⁻¹ (λ (v : ℤ). mag v < 2 ^ 63) (toZ-ofZ w64 z f) (f .sfits)
 
 -- a parameter that is below 0, turned over
-over : (c : tie.Then1) → Above (negsuc 0 -ℤ back (c .before .args .cell))
-over c = turned (back (c .before .args .cell)) (c .if1 .taken) (small (c .before .args .cell) (c .before .fits .cell))
+abbrev over : tie.Then1 → ℤ
+over c = negsuc 0 -ℤ back (c .before .args .cell)
+
+over-above : (c : tie.Then1) → Above (over c)
+over-above c = turned (back (c .before .args .cell)) (c .if1 .taken) (small (c .before .args .cell) (c .before .fits .cell))
 
 sub-result : tie.Need-sub-result
-sub-result c = fits (negsuc 0 -ℤ back (c .before .args .cell)) (over c)
+sub-result c = fits (over c) (over-above c)
 
 cast-result : tie.Need-cast-result
-cast-result c = let a = kept (negsuc 0 -ℤ back (c .before .args .cell)) (over c) in (a .sign, record { fits = omega (arith, a .below) })
+cast-result c = let a = kept (over c) (over-above c) in (a .sign, record { fits = omega (arith, a .below) })
 
 add-result : tie.Need-add-result
-add-result c = let a = kept (negsuc 0 -ℤ back (c .before .args .cell)) (over c) in record { fits = omega (arith, a .below) }
+add-result c = let a = kept (over c) (over-above c) in record { fits = omega (arith, a .below) }
 
 cast-result-2 : tie.Need-cast-result-2
 cast-result-2 c =
