@@ -12,7 +12,7 @@ use lib.ListN.{length}
 use Rattle.model.specs.Numbers.{at, transposed}
 use Rattle.model.specs.Table.{Table}
 use Rattle.model.specs.Rounds.{settling, inverse_rounds, impact_rounds}
-use Rattle.model.specs.Checks.{Report, report_read, report_told, Check, amount_limit, balance_checks, both_settle_lem, verdict, column_sums, columns_settle, demand_checks, demand_limit, induced_amounts, lengths, production_total, rise_limit, single, size, table_amounts}
+use Rattle.model.specs.Checks.{Report, report_read, report_told, Check, amount_limit, balance_checks, both_settle, verdict, column_sums, columns_settle, demand_checks, demand_limit, induced_amounts, lengths, production_total, rise_limit, single, size, table_amounts}
 use Rattle.model.specs.Calls.{coefficients_report, domestic_coefficients, domestic_demand_checks, domestic_demand_report, impact_report, implied_checks, implied_report, induced_report, inverse_report, matrix_checks, price_report, production_report, settling_checks, table_checks}
 use Rattle.model.specs.Aggregation.{partitioned, merged_within, aggregate_checks, aggregate_report}
 use Rattle.model.specs.Permutation.{entries_fresh, permute_checks, permute_report}
@@ -95,7 +95,7 @@ module _ (n : ℕ) (d : List ℕ) where
   pub impact_number : (before after : List ℕ) (budget : ℕ) (lent : List ℕ) → Numbered (impact_report n d before after budget lent)
   unfolding impact_report
   impact_number before after budget lent =
-      numbered (matrix_checks n d [] (length before ∷ length after ∷ lent) ++ demand_checks n before after ++ both_settle_lem n (at n d) before after budget)
+      numbered (matrix_checks n d [] (length before ∷ length after ∷ lent) ++ demand_checks n before after ++ both_settle n (at n d) before after budget)
       (impact_rounds n (at n d) before after budget ∷ []) refl
 
 pub induced_number : (n : ℕ) (a m v F y lent : List ℕ) → Numbered (induced_report n a m v F y lent)

@@ -8,7 +8,7 @@ ghost use Rattle.model.specs.Checks.{amount_limit};
 ghost use Rattle.model.specs.File.{amount_bytes, column_kinds, encode, encode_all, word_limit};
 ghost use Rattle.model.specs.Writer.{word_entries};
 
-use bytes::put_bytes;
+use byte_slices::put_bytes;
 use model::SECTORS;
 
 // An amount in four bytes, highest first.

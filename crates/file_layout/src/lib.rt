@@ -9,7 +9,7 @@ ghost use Rattle.model.specs.Writer.{rows, words_entries, written};
 ghost use Rattle.model.specs.CallContracts.{slices_of, table_from};
 ghost use Rattle.theory_tables.specs.Tables.{TableAmounts, TableSizes};
 
-use bytes::{put_byte, put_bytes};
+use byte_slices::{put_byte, put_bytes};
 use file_encoding::put_word;
 use model::SECTORS;
 

@@ -4,7 +4,7 @@ ghost use Rattle.model.specs.Checks.{report, report_written, verdict};
 ghost use Rattle.model.specs.Writer.{writer_checks};
 ghost use Rattle.model.specs.CallContracts.{FileWritten, slices_of, table_from};
 
-use bytes::clear_bytes;
+use byte_slices::clear_bytes;
 use checks::{check_sizes, next_within};
 use file_layout::put_table;
 use model::{AMOUNT_LIMIT, Answer, COLUMNS, FILE, TableWritten};

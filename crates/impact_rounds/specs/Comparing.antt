@@ -2,9 +2,9 @@
 use Rattle.std.specs.Prelude.{ℕ}
 use Rattle.model.specs.Numbers.{Cells, Sheet}
 use Rattle.model.specs.Rounds.{impact, impact_rounds}
-use Rattle.model.specs.Checks.{Report, both_settle_lem}
+use Rattle.model.specs.Checks.{Report, both_settle}
 use Rattle.theory_rounds.specs.Search.{Solved}
 
 -- question 9 of two starts, with the rise of what they settle at
 abbrev pub BothSettled : (n : ℕ) (c : Sheet) (s t : Cells) (budget : ℕ) (r : Report) (out work : Cells) → Type 0
-BothSettled n c s t budget = Solved (both_settle_lem n c s t budget) (impact_rounds n c s t budget) (impact n c s t budget) n n
+BothSettled n c s t budget = Solved (both_settle n c s t budget) (impact_rounds n c s t budget) (impact n c s t budget) n n

@@ -5,7 +5,7 @@ use Rattle.std.specs.Prelude.{List, [], ◌∷◌, ◌++◌, map, ℕ, length}
 use Rattle.model.specs.Numbers.{Cells, Sheet, tabulate, at, matrix, transposed}
 use Rattle.model.specs.Table.{Table, input_coefficient, value_added_coefficient, import_coefficient, domestic_coefficient, domestic_demand, final_demand, exports, adjustment}
 use Rattle.model.specs.Rounds.{settling, inverse_rounds, impact_rounds}
-use Rattle.model.specs.Checks.{Report, Check, verdict, single, size, lengths, table_amounts, induced_amounts, demand_amounts, exports_within, balance_checks, column_sums, bounded, demand_limit, rise_limit, production_total, settles, columns_settle, demand_checks, both_settle_lem}
+use Rattle.model.specs.Checks.{Report, Check, verdict, single, size, lengths, table_amounts, induced_amounts, demand_amounts, exports_within, balance_checks, column_sums, bounded, demand_limit, rise_limit, production_total, settles, columns_settle, demand_checks, both_settle}
 
 module _ (t : Table) where
   -- The results of sheets from a table: a, v, m, d and f
@@ -82,7 +82,7 @@ module _ (n : ℕ) (d : Cells) where
   -- after 8: 1, 2, 7, 8, 8, 17, 9, 9. Its result: `impact n (at n d) before after budget`
   unfoldable pub impact_report : (before after : Cells) (budget : ℕ) (lent : List ℕ) → Report
   impact_report before after budget lent =
-      verdict (matrix_checks [] (length before ∷ length after ∷ lent) ++ demand_checks n before after ++ both_settle_lem n (at n d) before after budget)
+      verdict (matrix_checks [] (length before ∷ length after ∷ lent) ++ demand_checks n before after ++ both_settle n (at n d) before after budget)
       (impact_rounds n (at n d) before after budget ∷ [])
 
 -- Induced amounts ask 1, 2, 3, 8; their results: `induced_value_added n v y` and `induced_imports n (at n a) m F y`

@@ -208,5 +208,5 @@ abbrev pub demand_checks : (n : ℕ) (before after : Cells) → List Check
 demand_checks n before after = bounded 8 0 demand_limit before ∷ bounded 8 0 demand_limit after ∷ not_below n before after ∷ []
 
 -- and then of their rounds: 9 of the first, 9 of the second
-abbrev pub both_settle_lem : (n : ℕ) (c : Sheet) (before after : Cells) (budget : ℕ) → List Check
-both_settle_lem n c before after budget = single 9 (settles n c before budget) ∷ single 9 (settles n c after budget) ∷ []
+abbrev pub both_settle : (n : ℕ) (c : Sheet) (before after : Cells) (budget : ℕ) → List Check
+both_settle n c before after budget = single 9 (settles n c before budget) ∷ single 9 (settles n c after budget) ∷ []

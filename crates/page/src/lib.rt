@@ -2,7 +2,7 @@
 ghost use Rattle.model.specs.Checks.{report_page};
 ghost use Rattle.model.specs.CallContracts.{PagePrinted};
 
-use bytes::clear_bytes;
+use byte_slices::clear_bytes;
 use model::{PAGE, PageWritten};
 use page_file::file_page;
 

@@ -4,7 +4,7 @@ ghost use Rattle.std.proofs.lemmas.List.Edits.{sets};
 ghost use Rattle.model.specs.Text.{decimal, line};
 ghost use Rattle.model.specs.Page.{headings, lines_to, refusal_line, rounds_line, sector_line, sheet};
 
-use bytes::put_bytes;
+use byte_slices::put_bytes;
 use page_text::{put_fields, put_rest};
 
 // A word and amounts as one line.

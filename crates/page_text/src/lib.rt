@@ -3,7 +3,7 @@ ghost use Rattle.std.specs.Prelude.{◌≡◌, ◌∷◌, map, ◌+◌, ◌≤�
 ghost use Rattle.std.proofs.lemmas.List.Edits.{sets};
 ghost use Rattle.model.specs.Text.{decimal, rest, line};
 
-use bytes::put_byte;
+use byte_slices::put_byte;
 
 // An amount in decimal: the digits of its tenth, then the digit that remains.
 pub fn put_decimal(amount: u64, at: usize, out: &mut [u8]) -> usize

@@ -42,14 +42,14 @@ alike false true e = absurd (false≢true e)
 abbrev eleventh : ℕ → Bool
 eleventh k = cond (leb 1 (cell record_lengths k)) (leb 1 k && leb k 9) (cond (leb 1 k && leb k 9) false true)
 
-abbrev other_word_lem : ℕ → Bool
-other_word_lem k = cond (eqb (cell column_words k) (column_word 5)) false true
+abbrev other_word : ℕ → Bool
+other_word k = cond (eqb (cell column_words k) (column_word 5)) false true
 
 -- each kind but 10
-each_other : (k : ℕ) → (k ≡ 10 → ⊥) → k < length record_lengths → (eleventh k ≡ true) × (other_word_lem k ≡ true)
+each_other : (k : ℕ) → (k ≡ 10 → ⊥) → k < length record_lengths → (eleventh k ≡ true) × (other_word k ≡ true)
 each_other k other h =
-    let found = first_before (length record_lengths) (λ i. eqb i 10 || (eleventh i && other_word_lem i)) k h in
-    and_true _ _ (sym (ap (λ (b : Bool). b || (eleventh k && other_word_lem k)) (ne_eqb k 10 other)) ∙ found)
+    let found = first_before (length record_lengths) (λ i. eqb i 10 || (eleventh i && other_word i)) k h in
+    and_true _ _ (sym (ap (λ (b : Bool). b || (eleventh k && other_word k)) (ne_eqb k 10 other)) ∙ found)
 
 kinds_alike : (k : ℕ) → (k ≡ 10 → ⊥) → leb 1 (cell record_lengths k) ≡ (leb 1 k && leb k 9)
 kinds_alike k other = go (ltb k (length record_lengths)) refl

@@ -11,7 +11,7 @@ use lib.Dec.{eqb}
 use lib.ListN.{length, replicate}
 use Rattle.model.specs.Numbers.{all, sum, cell, at}
 use Rattle.model.specs.Rounds.{settling, settled, Settles, impact, impact_rounds}
-use Rattle.model.specs.Checks.{Report, Check, verdict, output, single, settles, lengths, demand_checks, both_settle_lem, demand_limit, production_budget}
+use Rattle.model.specs.Checks.{Report, Check, verdict, output, single, settles, lengths, demand_checks, both_settle, demand_limit, production_budget}
 use Rattle.model.specs.Calls.{matrix_checks, settling_checks, production_report, impact_report}
 use Rattle.model.specs.Promises.{AcceptedMatrix, Equal, NowhereBelow, added, Rises}
 use Rattle.model.specs.CallContracts.{Compared}
@@ -88,7 +88,7 @@ module _ (n : ℕ) (d before after lent : List ℕ) where
 
   module _ (budget : ℕ) where
     abbrev both_checks : List Check
-    both_checks = matrix_checks n d [] (length before ∷ length after ∷ lent) ++ demand_checks n before after ++ both_settle_lem n (at n d) before after budget
+    both_checks = matrix_checks n d [] (length before ∷ length after ∷ lent) ++ demand_checks n before after ++ both_settle n (at n d) before after budget
 
     abbrev checks_of : List ℕ → List Check
     checks_of f = settling_checks n d (at n d) demand_limit f budget lent
@@ -142,7 +142,7 @@ module _ (n : ℕ) (d before after lent : List ℕ) where
     impact_nine : (impact_report n d before after budget lent).number ≡ 9 → budget < production_budget
     unfolding impact_report
     impact_nine =
-        nine_below (matrix_checks n d [] (length before ∷ length after ∷ lent) ++ demand_checks n before after) (both_settle_lem n (at n d) before after budget) larger budget production_budget refl
+        nine_below (matrix_checks n d [] (length before ∷ length after ∷ lent) ++ demand_checks n before after) (both_settle n (at n d) before after budget) larger budget production_budget refl
         (λ h p.
         let s = both_started p in
         (settling_within s.first h, (settling_within s.second h, tt)))

@@ -10,7 +10,7 @@ use lib.ListN.{length}
 use Rattle.model.specs.Numbers.{one, cell, at}
 use Rattle.model.specs.Table.{table_by, adjusted_exports, domestic_demand}
 use Rattle.model.specs.Rounds.{settling, impact_rounds}
-use Rattle.model.specs.Checks.{Report, accepts, verdict, output, size, lengths, amount_limit, demand_limit, demand_amounts, exports_within, demand_checks, both_settle_lem, production_budget}
+use Rattle.model.specs.Checks.{Report, accepts, verdict, output, size, lengths, amount_limit, demand_limit, demand_amounts, exports_within, demand_checks, both_settle, production_budget}
 use Rattle.model.specs.Calls.{coefficients_report, import_coefficients, domestic_demand_checks, domestic_demand_report, matrix_checks, impact_report}
 use Rattle.model.specs.Promises.{AcceptedMatrix, NowhereBelow, added, OrderedInside}
 use Rattle.model.specs.CallContracts.{Demanded}
@@ -99,8 +99,8 @@ module _ (n : ℕ) (m before F E G lent : List ℕ) (g : DemandGiven n m F E G l
       let asked = matrix_checks n d [] slices ++ demand_checks n s t in
       let k = impact_rounds n (at n d) s t budget ∷ [] in
       ap (λ (r : Report). r.accepted)
-      (all_accepted (asked ++ both_settle_lem n (at n d) s t budget) k
-      (all_pass_both asked (both_settle_lem n (at n d) s t budget)
+      (all_accepted (asked ++ both_settle n (at n d) s t budget) k
+      (all_pass_both asked (both_settle n (at n d) s t budget)
       (all_pass_both (matrix_checks n d [] slices) (demand_checks n s t) (matrix_accepted n d [] slices A refl (equal_each n slices each)) (demands_pass grows))
       (λ _ _. settles s (demand_within before grows), (λ _ _. settles t own_within, tt))))
     where

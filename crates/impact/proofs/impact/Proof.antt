@@ -5,7 +5,7 @@ use borrow.Author.Rules.{rules}
 use lib.ListN.{length}
 use Rattle.model.specs.Numbers.{at}
 use Rattle.model.specs.Rounds.{impact, impact_rounds}
-use Rattle.model.specs.Checks.{Report, Check, demand_checks, both_settle_lem}
+use Rattle.model.specs.Checks.{Report, Check, demand_checks, both_settle}
 use Rattle.model.specs.Calls.{matrix_checks, impact_report}
 use Rattle.model.specs.CallContracts.{Compared}
 use Rattle.theory.proofs.Verdicts.{answered_pass}
@@ -29,7 +29,7 @@ asked q =
     matrix_checks a.n a.d.now [] (length a.before.now ∷ length a.after.now ∷ lent q) ++ demand_checks a.n a.before.now a.after.now
 
 abbrev last : tie.After-check-impact → List Check
-last q = let a = (entry q).args in both_settle_lem a.n (at a.n a.d.now) a.before.now a.after.now a.budget
+last q = let a = (entry q).args in both_settle a.n (at a.n a.d.now) a.before.now a.after.now a.budget
 
 -- the larger count, and the rise
 abbrev count : tie.After-check-impact → ℕ
