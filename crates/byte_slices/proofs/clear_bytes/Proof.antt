@@ -8,19 +8,19 @@ use Rattle.theory.proofs.Lists.{Agree, agree_none, agree_set, zeroed}
 use Rattle.byte_slices.proofs.clear_bytes.Statement.{statement}
 use Rattle.byte_slices.proofs.clear_bytes.Tie as tie
 
-abbrev invariant-loop : tie.invariant-loop
+abbrev invariant-loop : tie.invariant-loop-i
 invariant-loop s₀ i₀ s i = (i ≤ length s) × (length s ≡ length s₀) × Agree s i (λ _. 0)
 
-abbrev decreases-loop : tie.decreases-loop
+abbrev decreases-loop : tie.decreases-loop-i
 decreases-loop s₀ i₀ s i = length s - i
 
-loop-again : tie.Need-loop-preserved invariant-loop decreases-loop
+loop-again : tie.Need-loop-i-preserved invariant-loop decreases-loop
 loop-again c =
-    let l = c.before.loop in
+    let l = c.before.loop-i in
     (simp length-set (omega arith), simp length-set (omega arith), agree_set l.out l.i _ 0 (omega arith) refl l.invariant.2)
 
 returns : tie.Need-returns invariant-loop decreases-loop
-returns c = zeroed _ _ c.before.loop.out c.before.loop.invariant.1 (omega arith) c.before.loop.invariant.2
+returns c = zeroed _ _ c.before.loop-i.out c.before.loop-i.invariant.1 (omega arith) c.before.loop-i.invariant.2
 
 pub clear_bytes_spec : {M : Type 1} → statement M
 clear_bytes_spec =

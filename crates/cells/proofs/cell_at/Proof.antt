@@ -18,6 +18,6 @@ cell_at_spec =
     (tie.spec
     (λ c. omega (arith, inside c.before)) (λ c. omega (arith, inside c.before))
     (λ c. omega (arith, inside c.before)) (λ c. omega (arith, inside c.before.before))
-    (λ c. rw c.before.if1.true) (λ c. omega (arith, inside c.before))
+    (λ c. rw c.before.if-exchanged.true) (λ c. omega (arith, inside c.before))
     (λ c. omega (arith, inside c.before)) (λ c. omega (arith, inside c.before))
-    (λ c. omega (arith, inside c.before.before)) (λ c. rw c.before.if1.false))
+    (λ c. omega (arith, inside c.before.before)) (λ c. rw c.before.if-exchanged.false))

@@ -8,20 +8,20 @@ use Rattle.theory.proofs.Lists.{Front, front_none, front_set, agreed}
 use Rattle.cells.proofs.copy_cells.Statement.{statement}
 use Rattle.cells.proofs.copy_cells.Tie as tie
 
-abbrev invariant-loop : tie.invariant-loop
+abbrev invariant-loop : tie.invariant-loop-i
 invariant-loop src dst₀ i₀ i-end dst i = (i-end ≡ length src) × Front (length src) (cell src) dst i
 
-abbrev decreases-loop : tie.decreases-loop
+abbrev decreases-loop : tie.decreases-loop-i
 decreases-loop src dst₀ i₀ i-end dst i = length src - i
 
-loop-again : tie.Need-loop-preserved invariant-loop decreases-loop
+loop-again : tie.Need-loop-i-preserved invariant-loop decreases-loop
 loop-again c =
     let p = c.before.before in
-    (p.loop.invariant.0, front_set p.loop.invariant.1 (omega arith) refl)
+    (p.loop-i.invariant.0, front_set p.loop-i.invariant.1 (omega arith) refl)
 
 returns : tie.Need-returns invariant-loop decreases-loop
 returns c =
-    let p = c.before.loop.invariant.1 in
+    let p = c.before.loop-i.invariant.1 in
     agreed _ _ _ _ p.whole refl (omega arith) p.agree
 
 pub copy_cells_spec : {M : Type 1} → statement M

@@ -8,17 +8,17 @@ use Rattle.theory.proofs.Lists.{Front, front_none, front_set, front_filled}
 use Rattle.cells.proofs.fill_zero.Statement.{statement}
 use Rattle.cells.proofs.fill_zero.Tie as tie
 
-abbrev invariant-loop : tie.invariant-loop
+abbrev invariant-loop : tie.invariant-loop-i
 invariant-loop s₀ i₀ s i = Front (length s₀) (λ _. 0) s i
 
-abbrev decreases-loop : tie.decreases-loop
+abbrev decreases-loop : tie.decreases-loop-i
 decreases-loop s₀ i₀ s i = length s - i
 
-loop-again : tie.Need-loop-preserved invariant-loop decreases-loop
-loop-again c = front_set c.before.loop.invariant (omega arith) refl
+loop-again : tie.Need-loop-i-preserved invariant-loop decreases-loop
+loop-again c = front_set c.before.loop-i.invariant (omega arith) refl
 
 returns : tie.Need-returns invariant-loop decreases-loop
-returns c = front_filled c.before.loop.invariant (omega arith)
+returns c = front_filled c.before.loop-i.invariant (omega arith)
 
 pub fill_zero_spec : {M : Type 1} → statement M
 fill_zero_spec =

@@ -9,7 +9,7 @@ use Rattle.cells.proofs.intermediate_use.Tie as tie
 
 returns : tie.Need-returns
 unfolding intermediate
-returns c = ap (λ (w : ℕ). w / one) c.weighted-sum.ensures
+returns c = ap (λ (w : ℕ). w / one) c.weighted_sum.ensures
 
 pub intermediate_use_spec : {M : Type 1} → statement M
 intermediate_use_spec = tie.close (tie.spec (λ c κs. search rules) returns)

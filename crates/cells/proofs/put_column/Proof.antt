@@ -20,26 +20,26 @@ record Stored (n j : ℕ) (column sheet₀ sheet : List ℕ) (i : ℕ) : Type 0 
   rows : (r : ℕ) → r < i → at n sheet r j ≡ cell column r
   earlier : (r k : ℕ) → k < j → at n sheet r k ≡ at n sheet₀ r k
 
-abbrev invariant-loop : tie.invariant-loop
+abbrev invariant-loop : tie.invariant-loop-i
 invariant-loop n j column sheet₀ i₀ sheet i = Stored n j column sheet₀ sheet i
 
-abbrev decreases-loop : tie.decreases-loop
+abbrev decreases-loop : tie.decreases-loop-i
 decreases-loop n j column sheet₀ i₀ sheet i = n - i
 
 -- a cell on either side of the diagonal lies in the sheet
 in-sheet :
-    (c : tie.In-loop invariant-loop decreases-loop) →
+    (c : tie.In-loop-i invariant-loop decreases-loop) →
     let a = c.before.before.args in
-    let i = c.before.loop.i in
+    let i = c.before.loop-i.i in
     (i * a.n + a.j < a.n * a.n) × (a.j * a.n + i < a.n * a.n)
 in-sheet c =
-    let h = c.loop-test.true in
+    let h = c.loop-i-test.true in
     let l = c.before.before.requires.2 in
     (cell_in _ _ _ h l, cell_in _ _ _ l h)
 
-loop-again : tie.Need-loop-preserved invariant-loop decreases-loop
+loop-again : tie.Need-loop-i-preserved invariant-loop decreases-loop
 loop-again c =
-    let l = c.before.before.loop in
+    let l = c.before.before.loop-i in
     let s = c.before.before.before in
     let n = s.args.n in
     let j = s.args.j in
@@ -57,8 +57,8 @@ loop-again c =
 
 returns : tie.Need-returns invariant-loop decreases-loop
 returns c =
-    let l = c.before.loop in
-    (λ i h. l.invariant.rows i (omega (arith, c.loop-test.false)), l.invariant.earlier)
+    let l = c.before.loop-i in
+    (λ i h. l.invariant.rows i (omega (arith, c.loop-i-test.false)), l.invariant.earlier)
 
 pub put_column_spec : {M : Type 1} → statement M
 put_column_spec =

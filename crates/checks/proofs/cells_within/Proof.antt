@@ -9,25 +9,25 @@ use Rattle.theory.proofs.Verdicts.{Scan, scan_none, scan_more, scan_failed, scan
 use Rattle.checks.proofs.cells_within.Statement.{statement}
 use Rattle.checks.proofs.cells_within.Tie as tie
 
-abbrev invariant-loop : tie.invariant-loop
+abbrev invariant-loop : tie.invariant-loop-i
 invariant-loop number offset limit s i₀ i-end i = (i-end ≡ length s) × Scan (bounded number offset limit s) i
 
-abbrev decreases-loop : tie.decreases-loop
+abbrev decreases-loop : tie.decreases-loop-i
 decreases-loop number offset limit s i₀ i-end i = length s - i
 
-returns : tie.Need-returns invariant-loop decreases-loop
+returns : tie.Need-returns-then-limit-s invariant-loop decreases-loop
 returns c =
-    let l = c.before.before.before.loop in
-    scan_failed l.invariant.1 (omega arith) (lt-leb _ _ c.if1.true)
+    let l = c.before.before.before.loop-i in
+    scan_failed l.invariant.1 (omega arith) (lt-leb _ _ c.if-limit-s.true)
 
-loop-again : tie.Need-loop-preserved invariant-loop decreases-loop
+loop-again : tie.Need-loop-i-preserved invariant-loop decreases-loop
 loop-again c =
-    let l = c.before.before.before.loop in
-    (l.invariant.0, scan_more l.invariant.1 (omega arith) (le-leb _ _ c.if1.false))
+    let l = c.before.before.before.loop-i in
+    (l.invariant.0, scan_more l.invariant.1 (omega arith) (le-leb _ _ c.if-limit-s.false))
 
 pub cells_within_spec : {M : Type 1} → statement M
 cells_within_spec =
     tie.close
     (tie.spec
     invariant-loop decreases-loop (λ c. (refl, scan_none)) (λ c. omega arith) (λ c. omega arith) (λ c. omega arith) returns
-    (λ c. omega arith) (λ c. omega arith) loop-again (λ c. scan_passed c.before.loop.invariant.1 (omega arith)))
+    (λ c. omega arith) (λ c. omega arith) loop-again (λ c. scan_passed c.before.loop-i.invariant.1 (omega arith)))

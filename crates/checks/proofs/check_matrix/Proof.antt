@@ -9,31 +9,31 @@ use Rattle.checks.proofs.check_matrix.Statement.{statement}
 use Rattle.checks.proofs.check_matrix.Tie as tie
 
 -- questions 1 and 2, and question 7
-abbrev entry : tie.After-check-sizes → tie.Start
+abbrev entry : tie.After-check_sizes-sizes → tie.Start
 entry q = q.before.before.before.before
 
-abbrev asked : tie.After-check-sizes → List Check
+abbrev asked : tie.After-check_sizes-sizes → List Check
 asked q = let a = (entry q).args in size a.n ∷ lengths a.n a.matrices.now a.lent.now ∷ []
 
-abbrev last : tie.After-check-sizes → List Check
+abbrev last : tie.After-check_sizes-sizes → List Check
 last q = let a = (entry q).args in column_sums a.n (at a.n a.d.now) ∷ []
 
-returns : tie.Need-returns
+returns : tie.Need-returns-in_default
 returns c =
     let q = c.before.before in
-    answered_end (asked q) q.check-sizes.ensures (last q) c.enum-told2.given.1
+    answered_end (asked q) q.check_sizes-sizes.ensures (last q) c.enum_told-in_default-1.given.1
 
-columns-within-requires : tie.Need-columns-within-requires
+columns-within-requires : tie.Need-columns_within-requires
 columns-within-requires c κs =
     let q = c.before.before in
     let a = (entry q).args in
-    let p = answered_pass (asked q) q.check-sizes.ensures c.enum_told.given.1 in
+    let p = answered_pass (asked q) q.check_sizes-sizes.ensures c.enum_told-1.given.1 in
     (entry q).requires (sized a.n a.matrices.now a.lent.now p.0 p.1.0).squares
 
-returns-2 : tie.Need-returns-2
+returns-2 : tie.Need-returns
 returns-2 c =
     let q = c.before.before.before in
-    c.columns-within.ensures ∙ answered_on (asked q) q.check-sizes.ensures (last q) [] c.before.enum_told.given.1
+    c.columns_within.ensures ∙ answered_on (asked q) q.check_sizes-sizes.ensures (last q) [] c.before.enum_told-1.given.1
 
 pub check_matrix_spec : {M : Type 1} → statement M
 check_matrix_spec =

@@ -10,10 +10,10 @@ use Rattle.theory.proofs.Verdicts.{Scan, scan_none, scan_more, scan_failed_each,
 use Rattle.checks.proofs.columns_within.Statement.{statement}
 use Rattle.checks.proofs.columns_within.Tie as tie
 
-abbrev invariant-loop : tie.invariant-loop
+abbrev invariant-loop : tie.invariant-loop-i
 invariant-loop n d j sum₀ i₀ s i = (i ≤ n) × (s ≡ sum i (transposed (at n d) j)) × (s ≤ column_limit)
 
-abbrev decreases-loop : tie.decreases-loop
+abbrev decreases-loop : tie.decreases-loop-i
 decreases-loop n d j sum₀ i₀ s i = n - i
 
 abbrev invariant-scan : tie.invariant-scan
@@ -27,29 +27,29 @@ abbrev column : tie.At-scan invariant-loop decreases-loop invariant-scan decreas
 column p = transposed (at p.before.args.n p.before.args.d.now) p.scan.j
 
 in-matrix :
-    (c : tie.In-loop invariant-loop decreases-loop invariant-scan decreases-scan) →
+    (c : tie.In-loop-i invariant-loop decreases-loop invariant-scan decreases-scan) →
     let n = c.before.before.before.before.args.n in
-    c.before.loop.i * n + c.before.before.before.scan.j < n * n
-in-matrix c = cell_in _ _ _ c.loop-test.true c.before.before.if1.false
+    c.before.loop-i.i * n + c.before.before.before.scan.j < n * n
+in-matrix c = cell_in _ _ _ c.loop-i-test.true c.before.before.if-n-j.false
 
-loop-again : tie.Need-loop-preserved invariant-loop decreases-loop invariant-scan decreases-scan
+loop-again : tie.Need-loop-i-preserved invariant-loop decreases-loop invariant-scan decreases-scan
 loop-again c =
-    let l = c.before.before.before.loop in
+    let l = c.before.before.before.loop-i in
     (omega arith, sum_more (column c.before.before.before.before.before) l.i l.sum l.invariant.1, omega arith)
 
 scan-again : tie.Need-scan-preserved invariant-loop decreases-loop invariant-scan decreases-scan
 scan-again c =
-    let l = c.before.loop in
+    let l = c.before.loop-i in
     let p = c.before.before.before in
-    let under = sum_under (column p) l.i _ l.sum column_limit l.invariant.1 l.invariant.0 c.loop-test.false l.invariant.2 in
-    scan_more p.scan.invariant c.before.before.if1.false under
+    let under = sum_under (column p) l.i _ l.sum column_limit l.invariant.1 l.invariant.0 c.loop-i-test.false l.invariant.2 in
+    scan_more p.scan.invariant c.before.before.if-n-j.false under
 
-returns-2 : tie.Need-returns-2 invariant-loop decreases-loop invariant-scan decreases-scan
+returns-2 : tie.Need-returns-then-sum-coefficient invariant-loop decreases-loop invariant-scan decreases-scan
 returns-2 c =
-    let l = c.before.before.before.loop in
+    let l = c.before.before.before.loop-i in
     let p = c.before.before.before.before.before in
-    let over = sum_over (column p) l.i _ l.sum column_limit l.invariant.1 c.before.before.loop-test.true c.if2.true in
-    scan_failed_each p.scan.invariant c.before.before.before.before.if1.false over
+    let over = sum_over (column p) l.i _ l.sum column_limit l.invariant.1 c.before.before.loop-i-test.true c.if-sum-coefficient.true in
+    scan_failed_each p.scan.invariant c.before.before.before.before.if-n-j.false over
 
 pub columns_within_spec : {M : Type 1} → statement M
 columns_within_spec =
@@ -59,4 +59,4 @@ columns_within_spec =
     (λ c. omega (arith, in-matrix c)) (λ c. omega (arith, in-matrix c)) (λ c. omega (arith, in-matrix c))
     (λ c. omega (arith, in-matrix c.before)) (λ c. omega arith) (λ c. omega arith) (λ c. omega arith) (λ c. omega arith)
     loop-again (λ c. omega arith) (λ c. omega arith) scan-again
-    (λ c. scan_passed c.before.scan.invariant c.if1.true) returns-2)
+    (λ c. scan_passed c.before.scan.invariant c.if-n-j.true) returns-2)

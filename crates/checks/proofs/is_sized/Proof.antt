@@ -5,4 +5,4 @@ use Rattle.checks.proofs.is_sized.Tie as tie
 
 pub is_sized_spec : {M : Type 1} → statement M
 is_sized_spec =
-    tie.close (tie.spec (λ c. rw (lt-leb 1 _ c.if1.true)) (λ c. rw (le-leb 1 _ c.if1.false)))
+    tie.close (tie.spec (λ c. rw (lt-leb 1 _ c.if-n-lt1.true)) (λ c. rw (le-leb 1 _ c.if-n-lt1.false)))

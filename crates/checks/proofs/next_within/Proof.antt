@@ -7,15 +7,15 @@ use Rattle.theory.proofs.Verdicts.{answered_on, answered_end}
 use Rattle.checks.proofs.next_within.Statement.{statement}
 use Rattle.checks.proofs.next_within.Tie as tie
 
-returns : tie.Need-returns
+returns : tie.Need-returns-in_default
 returns c ps e =
     let a = c.before.before.before.args in
-    answered_end ps e (bounded 3 a.offset a.limit a.s.now ∷ []) c.enum-told2.given.1
+    answered_end ps e (bounded 3 a.offset a.limit a.s.now ∷ []) c.enum_told-in_default-1.given.1
 
-returns-2 : tie.Need-returns-2
+returns-2 : tie.Need-returns
 returns-2 c ps e =
     let a = c.before.before.before.before.args in
-    c.cells-within.ensures ∙ answered_on ps e (bounded 3 a.offset a.limit a.s.now ∷ []) [] c.before.enum_told.given.1
+    c.cells_within.ensures ∙ answered_on ps e (bounded 3 a.offset a.limit a.s.now ∷ []) [] c.before.enum_told-1.given.1
 
 pub next_within_spec : {M : Type 1} → statement M
 next_within_spec =

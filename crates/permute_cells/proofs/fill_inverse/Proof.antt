@@ -6,24 +6,24 @@ use Rattle.theory.proofs.Lists.{Front, front_none, front_set, front_done}
 use Rattle.permute_cells.proofs.fill_inverse.Statement.{statement}
 use Rattle.permute_cells.proofs.fill_inverse.Tie as tie
 
-abbrev invariant-loop : tie.invariant-loop
+abbrev invariant-loop : tie.invariant-loop-s
 invariant-loop n order inverse₀ s₀ inverse s = Front n (place_of n order) inverse s
 
-abbrev decreases-loop : tie.decreases-loop
+abbrev decreases-loop : tie.decreases-loop-s
 decreases-loop n order inverse₀ s₀ inverse s = n - s
 
-loop-holds : tie.Need-loop-init invariant-loop decreases-loop
+loop-holds : tie.Need-loop-s-init invariant-loop decreases-loop
 loop-holds c = front_none c.before.before.requires.1
 
-place-of-requires : tie.Need-place-of-requires invariant-loop decreases-loop
+place-of-requires : tie.Need-place_of-requires invariant-loop decreases-loop
 place-of-requires c κs = c.before.before.before.before.requires.0
 
-loop-again : tie.Need-loop-preserved invariant-loop decreases-loop
-loop-again c = let q = c.before in front_set q.before.loop.invariant q.loop-test.true c.place_of.ensures
+loop-again : tie.Need-loop-s-preserved invariant-loop decreases-loop
+loop-again c = let q = c.before in front_set q.before.loop-s.invariant q.loop-s-test.true c.place_of.ensures
 
 returns : tie.Need-returns invariant-loop decreases-loop
 unfolding inverse_list
-returns c = front_done c.before.loop.invariant c.loop-test.false
+returns c = front_done c.before.loop-s.invariant c.loop-s-test.false
 
 pub fill_inverse_spec : {M : Type 1} → statement M
 fill_inverse_spec =

@@ -20,7 +20,7 @@ fits x y h l = subst⁻¹ (λ (z : ℤ). SFits w64 z) (made x y h l) (record { s
 kept : (x y : ℕ) → x < 2 ^ 63 → y < 2 ^ 63 → to_z w64 (of_z w64 (to_z w64 x -ℤ to_z w64 y)) ≡ sub_ℕ x y
 kept x y h l = to_z-of_z w64 (to_z w64 x -ℤ to_z w64 y) (fits x y h l) ∙ made x y h l
 
-sub-result : tie.Need-overflow-sub-result
+sub-result : tie.Need-overflow_sub-result
 sub-result c = fits c.args.a c.args.b (omega arith) (omega arith)
 
 returns : tie.Need-returns

@@ -8,29 +8,29 @@ use Rattle.theory.proofs.Verdicts.{Scan, scan_none, scan_more, scan_failed_each,
 use Rattle.table_balances.proofs.exports_within.Statement.{statement}
 use Rattle.table_balances.proofs.exports_within.Tie as tie
 
-abbrev invariant-loop : tie.invariant-loop
+abbrev invariant-loop : tie.invariant-loop-i
 invariant-loop n exports item i₀ i = Scan (exports_within n exports item) i
 
-abbrev decreases-loop : tie.decreases-loop
+abbrev decreases-loop : tie.decreases-loop-i
 decreases-loop n exports item i₀ i = n - i
 
 -- the amounts of the sector are within their limit
 small :
-    (q : tie.In-loop invariant-loop decreases-loop) →
+    (q : tie.In-loop-i invariant-loop decreases-loop) →
     let a = q.before.before.args in
-    let i = q.before.loop.i in
+    let i = q.before.loop-i.i in
     (cell a.exports.now i ≤ amount_limit) × (cell a.adjustment.now i ≤ amount_limit)
-small q = q.before.before.requires.1 q.before.loop.i
+small q = q.before.before.requires.1 q.before.loop-i.i
 
-returns : tie.Need-returns invariant-loop decreases-loop
+returns : tie.Need-returns-then-exports-i-gt-AMOUNT_LIMIT invariant-loop decreases-loop
 returns c =
     let q = c.before.before.before in
-    scan_failed_each q.before.loop.invariant q.loop-test.true (lt-leb _ _ c.if1.true)
+    scan_failed_each q.before.loop-i.invariant q.loop-i-test.true (lt-leb _ _ c.if-exports-i-gt-AMOUNT_LIMIT.true)
 
-loop-again : tie.Need-loop-preserved invariant-loop decreases-loop
+loop-again : tie.Need-loop-i-preserved invariant-loop decreases-loop
 loop-again c =
     let q = c.before.before.before in
-    scan_more q.before.loop.invariant q.loop-test.true (le-leb _ _ c.if1.false)
+    scan_more q.before.loop-i.invariant q.loop-i-test.true (le-leb _ _ c.if-exports-i-gt-AMOUNT_LIMIT.false)
 
 pub exports_within_spec : {M : Type 1} → statement M
 exports_within_spec =
@@ -38,4 +38,4 @@ exports_within_spec =
     (tie.spec
     invariant-loop decreases-loop (λ c. scan_none) (λ c. omega arith) (λ c. omega arith) (λ c. omega arith) (λ c. omega arith)
     (λ c. omega (arith, small c.before.before)) returns (λ c. omega arith) (λ c. omega arith) loop-again
-    (λ c. scan_passed c.before.loop.invariant c.loop-test.false))
+    (λ c. scan_passed c.before.loop-i.invariant c.loop-i-test.false))

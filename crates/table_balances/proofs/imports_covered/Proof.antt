@@ -9,33 +9,33 @@ use Rattle.theory.proofs.Verdicts.{Scan, scan_none, scan_more, scan_failed_each,
 use Rattle.table_balances.proofs.imports_covered.Statement.{statement}
 use Rattle.table_balances.proofs.imports_covered.Tie as tie
 
-abbrev invariant-loop : tie.invariant-loop
+abbrev invariant-loop : tie.invariant-loop-i
 invariant-loop n x demand imports i₀ i = Scan (imports_covered (table_of n x (demand ∷ [] ∷ imports ∷ []))) i
 
-abbrev decreases-loop : tie.decreases-loop
+abbrev decreases-loop : tie.decreases-loop-i
 decreases-loop n x demand imports i₀ i = n - i
 
-abbrev entry : tie.At-loop invariant-loop decreases-loop → tie.Start invariant-loop decreases-loop
+abbrev entry : tie.At-loop-i invariant-loop decreases-loop → tie.Start invariant-loop decreases-loop
 entry p = p.before.before.before.before
 
-need-of-requires : tie.Need-need-of-requires invariant-loop decreases-loop
+need-of-requires : tie.Need-need_of-need-requires invariant-loop decreases-loop
 need-of-requires c κs =
     let s = entry c.before in
-    ((s.pre.0.0, c.loop-test.true, s.pre.0.1, s.pre.0.2), (s.pre.1.0, s.pre.1.1))
+    ((s.requires.n_le_sector_limit.0, c.loop-i-test.true, s.requires.n_le_sector_limit.1, s.requires.n_le_sector_limit.2), (s.requires.by_index, s.requires.by_index_2))
 
-returns : tie.Need-returns invariant-loop decreases-loop
+returns : tie.Need-returns-then-need-imports invariant-loop decreases-loop
 returns c =
     let q = c.before.before in
-    scan_failed_each q.before.before.loop.invariant q.before.loop-test.true (lt-leb _ _ (rw q.need-of.ensures.0 at c.if1.true))
+    scan_failed_each q.before.before.loop-i.invariant q.before.loop-i-test.true (lt-leb _ _ (rw q.need_of-need.ensures.0 at c.if-need-imports.true))
 
-loop-again : tie.Need-loop-preserved invariant-loop decreases-loop
+loop-again : tie.Need-loop-i-preserved invariant-loop decreases-loop
 loop-again c =
     let q = c.before.before in
-    scan_more q.before.before.loop.invariant q.before.loop-test.true (le-leb _ _ (rw q.need-of.ensures.0 at c.if1.false))
+    scan_more q.before.before.loop-i.invariant q.before.loop-i-test.true (le-leb _ _ (rw q.need_of-need.ensures.0 at c.if-need-imports.false))
 
 pub imports_covered_spec : {M : Type 1} → statement M
 imports_covered_spec =
     tie.close
     (tie.spec
     invariant-loop decreases-loop (λ c. scan_none) need-of-requires (λ c. omega arith) (λ c. omega arith) returns
-    (λ c. omega arith) (λ c. omega arith) loop-again (λ c. scan_passed c.before.loop.invariant c.loop-test.false))
+    (λ c. omega arith) (λ c. omega arith) loop-again (λ c. scan_passed c.before.loop-i.invariant c.loop-i-test.false))
