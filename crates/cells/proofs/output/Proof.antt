@@ -4,7 +4,7 @@ use Rattle.cells.proofs.output.Statement.{statement}
 use Rattle.cells.proofs.output.Tie as tie
 
 returns-2 : tie.Need-returns
-returns-2 c = let k = c.before.before.before.before in rw k.enum_told-in_default-1.given.1 c.before.before.fill_zero.ensures
+returns-2 c = let k = c.before.before.before.before in rw k.in_default.is c.before.before.fill_zero.ensures
 
 pub output_spec : {M : Type 1} → statement M
 output_spec =

@@ -43,8 +43,8 @@ loop-again c =
     let s = entry p in
     let l = p.loop-j in (
       omega arith,
-      q.auto.1.1.1.0 ∙ l.invariant.1,
-      λ i k h. below_more (λ k. at s.args.n q.new.1.1.1.0 i k ≡ at s.args.n s.args.d.now k i) l.j
+      q.auto.sheet ∙ l.invariant.1,
+      λ i k h. below_more (λ k. at s.args.n q.new.sheet i k ≡ at s.args.n s.args.d.now k i) l.j
           (λ k lt. q.ensures.1 i k lt ∙ l.invariant.2 i k h lt)
           (q.ensures.0 i h ∙ row_cell s.args.n l.j s.args.d.now i h) k,
     )

@@ -20,20 +20,20 @@ last q = let a = (entry q).args in column_sums a.n (at a.n a.d.now) ∷ []
 
 returns : tie.Need-returns-in_default
 returns c =
-    let q = c.before.before in
-    answered_end (asked q) q.check_sizes-sizes.ensures (last q) c.enum_told-in_default-1.given.1
+    let q = c.before in
+    answered_end (asked q) q.check_sizes-sizes.ensures (last q) c.in_default.is
 
 columns-within-requires : tie.Need-columns_within-requires
 columns-within-requires c κs =
-    let q = c.before.before in
+    let q = c.before in
     let a = (entry q).args in
-    let p = answered_pass (asked q) q.check_sizes-sizes.ensures c.enum_told-1.given.1 in
+    let p = answered_pass (asked q) q.check_sizes-sizes.ensures c.in-Accepted.is in
     (entry q).requires (sized a.n a.matrices.now a.lent.now p.0 p.1.0).squares
 
 returns-2 : tie.Need-returns
 returns-2 c =
-    let q = c.before.before.before in
-    c.columns_within.ensures ∙ answered_on (asked q) q.check_sizes-sizes.ensures (last q) [] c.before.enum_told-1.given.1
+    let q = c.before.before in
+    c.columns_within.ensures ∙ answered_on (asked q) q.check_sizes-sizes.ensures (last q) [] c.before.in-Accepted.is
 
 pub check_matrix_spec : {M : Type 1} → statement M
 check_matrix_spec =

@@ -6,7 +6,6 @@ use Prim.Native.Nat.{ℕ, ◌*◌, ◌≤◌}
 use native.Mathlib.Nat.{mul-le-mul}
 use native.Mathlib.Omega.{arith}
 use borrow.Author.Rules.{rules}
-use borrow.Author.Tests.{not-true, not-false}
 use lib.Dec.{eqb}
 use Rattle.model.specs.Numbers.{all}
 use Rattle.model.specs.Table.{sector_limit, few_sectors}
@@ -36,7 +35,7 @@ abbrev entry : tie.Else-not-is_sized → tie.Start
 entry c = c.before.before.before.before
 
 passed-1 : (c : tie.Else-not-is_sized) → few_sectors (entry c).args.n ≡ true
-passed-1 c = sym c.before.is_sized.ensures ∙ not-false _ c.if-not-is_sized.false
+passed-1 c = sym c.before.is_sized.ensures ∙ c.if-not-is_sized.false
 
 few : (c : tie.Else-not-is_sized) → (entry c).args.n ≤ sector_limit
 few c = (from_one (entry c).args.n sector_limit (passed-1 c)).1
@@ -44,31 +43,31 @@ few c = (from_one (entry c).args.n sector_limit (passed-1 c)).1
 returns : tie.Need-returns-then-not-is_sized
 returns c =
     let a = c.before.before.before.before.args in
-    stops_1 a.n a.matrices.now a.lent.now (sym c.before.is_sized.ensures ∙ not-true _ c.if-not-is_sized.true)
+    stops_1 a.n a.matrices.now a.lent.now (sym c.before.is_sized.ensures ∙ c.if-not-is_sized.true)
 
 returns-2 : tie.Need-returns-then-not-all_equal
 returns-2 c =
     let q = c.before in
     let a = (entry q.before).args in
-    stops_2 a.n a.matrices.now a.lent.now (passed-1 q.before) (rw (sym q.all_equal.ensures ∙ not-true _ c.if-not-all_equal.true))
+    stops_2 a.n a.matrices.now a.lent.now (passed-1 q.before) (rw (sym q.all_equal.ensures ∙ c.if-not-all_equal.true))
 
 -- past the lengths of the matrices
 passed-2 : (c : tie.Else-not-all_equal) → let a = (entry c.before.before).args in all (eqb (a.n * a.n)) a.matrices.now ≡ true
-passed-2 c = sym c.before.all_equal.ensures ∙ not-false _ c.if-not-all_equal.false
+passed-2 c = sym c.before.all_equal.ensures ∙ c.if-not-all_equal.false
 
 returns-3 : tie.Need-returns-then-not-all_equal-2
 returns-3 c =
     let q = c.before.before in
     let p = q.before.before in
     let a = (entry p).args in
-    stops_2 a.n a.matrices.now a.lent.now (passed-1 p) (rw (passed-2 q) (sym c.before.all_equal-2.ensures ∙ not-true _ c.if-not-all_equal-2.true))
+    stops_2 a.n a.matrices.now a.lent.now (passed-1 p) (rw (passed-2 q) (sym c.before.all_equal-2.ensures ∙ c.if-not-all_equal-2.true))
 
 returns-4 : tie.Need-returns
 returns-4 c =
     let q = c.before.before in
     let p = q.before.before in
     let a = (entry p).args in
-    goes_on a.n a.matrices.now a.lent.now (passed-1 p) (rw (passed-2 q) (sym c.before.all_equal-2.ensures ∙ not-false _ c.if-not-all_equal-2.false))
+    goes_on a.n a.matrices.now a.lent.now (passed-1 p) (rw (passed-2 q) (sym c.before.all_equal-2.ensures ∙ c.if-not-all_equal-2.false))
 
 pub check_sizes_spec : {M : Type 1} → statement M
 check_sizes_spec =

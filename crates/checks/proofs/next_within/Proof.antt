@@ -9,13 +9,13 @@ use Rattle.checks.proofs.next_within.Tie as tie
 
 returns : tie.Need-returns-in_default
 returns c ps e =
-    let a = c.before.before.before.args in
-    answered_end ps e (bounded 3 a.offset a.limit a.s.now ∷ []) c.enum_told-in_default-1.given.1
+    let a = c.before.before.args in
+    answered_end ps e (bounded 3 a.offset a.limit a.s.now ∷ []) c.in_default.is
 
 returns-2 : tie.Need-returns
 returns-2 c ps e =
-    let a = c.before.before.before.before.args in
-    c.cells_within.ensures ∙ answered_on ps e (bounded 3 a.offset a.limit a.s.now ∷ []) [] c.before.enum_told-1.given.1
+    let a = c.before.before.before.args in
+    c.cells_within.ensures ∙ answered_on ps e (bounded 3 a.offset a.limit a.s.now ∷ []) [] c.before.in-Accepted.is
 
 pub next_within_spec : {M : Type 1} → statement M
 next_within_spec =

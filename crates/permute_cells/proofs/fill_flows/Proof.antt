@@ -30,7 +30,7 @@ inside q =
     let s = entry q in
     let n = s.args.n in
     let k = q.before.loop-k.k in
-    (place_row n k s.requires.le_n.0 q.loop-k-test.true, place_column n k s.requires.le_n.0, s.requires.le_n.1, s.requires.le_n.2)
+    (place_row n k s.requires.0.0 q.loop-k-test.true, place_column n k s.requires.0.0, s.requires.0.1, s.requires.0.2)
 
 -- so is the old place
 old : (q : tie.In-loop-k invariant-loop decreases-loop) →
@@ -42,8 +42,8 @@ old q =
     let n = s.args.n in
     let z = inside q in
     let k = q.before.loop-k.k in
-    let e = s.requires.le_n.3 in
-    (omega (arith, cell_in n _ _ (s.requires.by_index (k / n) z.0) (s.requires.by_index (k % n) z.1)), mul-le-mul z.2 z.2, e)
+    let e = s.requires.0.3 in
+    (omega (arith, cell_in n _ _ (s.requires.1 (k / n) z.0) (s.requires.1 (k % n) z.1)), mul-le-mul z.2 z.2, e)
 
 loop-again : tie.Need-loop-k-preserved invariant-loop decreases-loop
 loop-again c = let q = c.before.before.before in front_set q.before.loop-k.invariant q.loop-k-test.true refl
@@ -52,6 +52,6 @@ pub fill_flows_spec : {M : Type 1} → statement M
 fill_flows_spec =
     tie.close
     (tie.spec
-    invariant-loop decreases-loop (λ c. omega (arith, mul-le-mul c.requires.0.1 c.requires.0.1)) (λ c. front_none c.requires.0.4) (λ c. (entry c).requires.0.0) (λ c. omega (arith, inside c)) (λ c. omega (arith, inside c.before)) (λ c. (entry c.before).requires.le_n.0) (λ c. omega (arith, inside c.before)) (λ c. omega (arith, inside c.before.before))
+    invariant-loop decreases-loop (λ c. omega (arith, mul-le-mul c.requires.0.1 c.requires.0.1)) (λ c. front_none c.requires.0.4) (λ c. (entry c).requires.0.0) (λ c. omega (arith, inside c)) (λ c. omega (arith, inside c.before)) (λ c. (entry c.before).requires.0.0) (λ c. omega (arith, inside c.before)) (λ c. omega (arith, inside c.before.before))
     (λ c. omega (arith, old c.before.before)) (λ c. omega (arith, old c.before.before)) (λ c. omega (arith, old c.before.before)) (λ c. (old c.before.before.before).0)
     (λ c. omega arith) (λ c. omega arith) (λ c. omega arith) (λ c. omega arith) loop-again (λ c. omega arith) (λ c. front_done c.before.loop-k.invariant c.loop-k-test.false))

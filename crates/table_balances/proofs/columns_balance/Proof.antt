@@ -72,14 +72,14 @@ scan-again : tie.Need-scan-preserved invariant-loop decreases-loop invariant-sca
 scan-again c =
     let q = c.before.before.before in
     let p = q.before.before.before in
-    let v = cell p.before.args.value-added.now p.scan.j in
+    let v = cell p.before.args.value_added.now p.scan.j in
     scan_more p.scan.invariant q.before.before.if-n-j.false (eq-eqb _ _ (ap (λ (t : ℕ). t + v) (sym (done q)) ∙ c.if-sum-value_added.false))
 
 returns-2 : tie.Need-returns-then-sum-value_added invariant-loop decreases-loop invariant-scan decreases-scan
 returns-2 c =
     let q = c.before.before.before in
     let p = q.before.before.before in
-    let v = cell p.before.args.value-added.now p.scan.j in
+    let v = cell p.before.args.value_added.now p.scan.j in
     scan_failed_each p.scan.invariant q.before.before.if-n-j.false (ne_eqb _ _ (λ e. c.if-sum-value_added.true (ap (λ (t : ℕ). t + v) (done q) ∙ e)))
 
 pub columns_balance_spec : {M : Type 1} → statement M

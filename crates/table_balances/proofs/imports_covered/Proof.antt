@@ -21,7 +21,7 @@ entry p = p.before.before.before.before
 need-of-requires : tie.Need-need_of-need-requires invariant-loop decreases-loop
 need-of-requires c κs =
     let s = entry c.before in
-    ((s.requires.n_le_sector_limit.0, c.loop-i-test.true, s.requires.n_le_sector_limit.1, s.requires.n_le_sector_limit.2), (s.requires.by_index, s.requires.by_index_2))
+    ((s.requires.0.0, c.loop-i-test.true, s.requires.0.1, s.requires.0.2), (s.requires.1.0, s.requires.1.1))
 
 returns : tie.Need-returns-then-need-imports invariant-loop decreases-loop
 returns c =

@@ -31,7 +31,7 @@ term c =
 last :
     (c : tie.After-shared_slice_known-2-1 invariant-loop decreases-loop) →
     let a = c.before.before.before.args in
-    (cell a.final-demand.now a.i ≤ amount_limit) × (c.before.before.loop-j.j ≤ sector_limit)
+    (cell a.final_demand.now a.i ≤ amount_limit) × (c.before.before.loop-j.j ≤ sector_limit)
 last c =
     let s = c.before.before.before in
     (s.requires.1.1 s.args.i, le_trans c.before.before.loop-j.invariant.0 s.requires.0.0)
@@ -51,7 +51,7 @@ returns c =
     let l = p.loop-j in
     let a = p.before.args in
     let e = sum_done (at a.n a.x.now a.i) l.j a.n l.sum l.invariant.1 l.invariant.0 c.before.loop-j-test.false in
-    (ap (λ (t : ℕ). t + cell a.final-demand.now a.i) e, omega (arith, last c))
+    (ap (λ (t : ℕ). t + cell a.final_demand.now a.i) e, omega (arith, last c))
 
 pub need_of_spec : {M : Type 1} → statement M
 need_of_spec =

@@ -21,7 +21,7 @@ abbrev entry : tie.At-loop-i invariant-loop decreases-loop → tie.Start invaria
 entry p = p.before.before.before.before.before.before.before
 
 abbrev table : tie.Start invariant-loop decreases-loop → Table
-table s = let a = s.args in table_by a.n a.x.now a.final-demand.now a.exports.now a.imports.now [] a.production.now a.adjustment.now
+table s = let a = s.args in table_by a.n a.x.now a.final_demand.now a.exports.now a.imports.now [] a.production.now a.adjustment.now
 
 -- the amounts of the sector are within their limit
 small :
@@ -29,7 +29,7 @@ small :
     let i = q.before.before.loop-i.i in
     let a = (entry q.before.before).args in
     (cell a.exports.now i ≤ amount_limit) × (cell a.imports.now i ≤ amount_limit) × (cell a.production.now i ≤ amount_limit) × (cell a.adjustment.now i ≤ amount_limit)
-small q = (entry q.before.before).requires.by_index_3 q.before.before.loop-i.i
+small q = (entry q.before.before).requires.1.1.1 q.before.before.loop-i.i
 
 -- the code's need of the sector with its exports and its adjustment item is the check's
 needed :
@@ -45,7 +45,7 @@ needed q =
 need-of-requires : tie.Need-need_of-need-requires invariant-loop decreases-loop
 need-of-requires c κs =
     let s = entry c.before in
-    ((s.requires.n_le_sector_limit.0, c.loop-i-test.true, s.requires.n_le_sector_limit.1, s.requires.n_le_sector_limit.2), (s.requires.by_index, s.requires.by_index_2))
+    ((s.requires.0.0, c.loop-i-test.true, s.requires.0.1, s.requires.0.2), (s.requires.1.0, s.requires.1.1.0))
 
 returns : tie.Need-returns-then-need-exports invariant-loop decreases-loop
 returns c =
