@@ -1,4 +1,6 @@
 // Merging sectors: from a table and groups of its sectors to the merged table and the sizes of the groups.
+#![tactic(auto)]
+
 ghost use Rattle.std.specs.Prelude.{length};
 ghost use Rattle.model.specs.Table.{table_by};
 ghost use Rattle.model.specs.Checks.{report};

@@ -1,4 +1,6 @@
 // The questions of merging sectors: the lengths, the groups, and the limits of what they have together.
+#![tactic(auto)]
+
 ghost use Rattle.std.specs.Prelude.{◌&&◌, [], ◌∷◌, ◌≡◌, ℕ, ◌<◌, ◌≤◌, eqb, leb, length};
 ghost use Rattle.model.specs.Numbers.{all, cell, tabulate, word_positions};
 ghost use Rattle.model.specs.Table.{sector_limit, table_by};

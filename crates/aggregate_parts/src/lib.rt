@@ -1,4 +1,6 @@
 // The questions of merging sectors with the lengths of all that is lent, and the outputs one at a time.
+#![tactic(auto)]
+
 ghost use Rattle.std.specs.Prelude.{true, [], ◌∷◌, ◌≡◌, ℕ, ◌*◌, ◌≤◌, length};
 ghost use Rattle.model.specs.Numbers.{cell, matrix, set_positions, tabulate};
 ghost use Rattle.model.specs.Table.{sector_limit, table_of, table_by};

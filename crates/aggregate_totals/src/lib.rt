@@ -1,4 +1,6 @@
 // What the sectors of groups have together: one total, a column of them, the flows, and how many sectors each group takes in.
+#![tactic(auto)]
+
 ghost use Rattle.std.specs.Prelude.{[], ◌≡◌, ℕ, ◌*◌, ◌<◌, ◌≤◌, length};
 ghost use Rattle.model.specs.Numbers.{at, cell, matrix, set_positions, tabulate};
 ghost use Rattle.model.specs.Table.{sector_limit, table_of};

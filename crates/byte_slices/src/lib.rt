@@ -1,4 +1,6 @@
 // Leaves over lent bytes. Those that write write from `at` on, keep every other byte, and answer the next free place.
+#![tactic(auto)]
+
 ghost use Rattle.std.specs.Prelude.{◌≡◌, ◌∷◌, [], ◌+◌, ◌≤◌, length, replicate};
 ghost use Rattle.std.proofs.lemmas.List.Edits.{sets};
 

@@ -1,4 +1,6 @@
 // Answers told through lent numbers, for callers that have no enums. A refusal's counts are 0.
+#![tactic(auto)]
+
 ghost use Rattle.std.specs.Prelude.{[], ◌∷◌};
 ghost use Rattle.model.specs.Checks.{report, report_page, report_read, report_rounds, report_written};
 ghost use Rattle.c_answers.specs.Told.{Told};

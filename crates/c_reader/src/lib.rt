@@ -1,5 +1,7 @@
 // The call for C that reads a table file. It promises what `read_table` promises, of the answer that comes through `&mut` numbers, where a
 // refusal's counts are 0.
+#![tactic(auto)]
+
 ghost use Rattle.std.specs.Prelude.{[], ◌∷◌};
 ghost use Rattle.model.specs.Checks.{report_told};
 ghost use Rattle.model.specs.CallContracts.{FileRead, slices_of};

@@ -1,5 +1,7 @@
 // The calls for C that take sheets, but for those that settle a demand or a direct rise. Each promises what the call of its name promises, of
 // the answer that comes through `&mut` numbers, where a refusal's counts are 0.
+#![tactic(auto)]
+
 ghost use Rattle.std.specs.Prelude.{[], ◌∷◌};
 ghost use Rattle.model.specs.Checks.{report_told};
 ghost use Rattle.model.specs.CallContracts.{Demanded, Implied, Induced, Inverted};

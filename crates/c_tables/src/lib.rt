@@ -1,5 +1,7 @@
 // The calls for C that take a table. Each promises what the call of its name promises, of the answer that comes through `&mut` numbers, where a
 // refusal's counts are 0.
+#![tactic(auto)]
+
 ghost use Rattle.std.specs.Prelude.{[], length};
 ghost use Rattle.model.specs.Table.{table_by};
 ghost use Rattle.model.specs.Checks.{report_told};

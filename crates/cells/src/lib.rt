@@ -1,4 +1,6 @@
 // Leaves over lent slices and over counts.
+#![tactic(auto)]
+
 ghost use Rattle.std.specs.Prelude.{◌≡◌, ℕ, ◌*◌, ◌<◌, ◌≤◌, max, length, replicate};
 ghost use Rattle.model.specs.Numbers.{at, cell, oriented, transposed};
 ghost use Rattle.model.specs.Rounds.{intermediate, weighted};

@@ -1,4 +1,6 @@
 // The checks of document 01 as scans over lent slices. Each answers its number and its first failing place, or that it passes.
+#![tactic(auto)]
+
 ghost use Rattle.std.specs.Prelude.{List, [], ◌∷◌, ◌++◌, ◌≡◌, ◌+◌, ◌*◌, ◌^◌, ◌<◌, eqb, length};
 ghost use Rattle.model.specs.Numbers.{all, at};
 ghost use Rattle.model.specs.Table.{few_sectors};

@@ -1,4 +1,6 @@
 // From a table to its coefficients and its demand for domestic goods.
+#![tactic(auto)]
+
 ghost use Rattle.model.specs.Table.{table_by};
 ghost use Rattle.model.specs.Checks.{report};
 ghost use Rattle.model.specs.CallContracts.{Derived};

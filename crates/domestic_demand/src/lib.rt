@@ -1,4 +1,6 @@
 // The demand for domestic goods of a final demand, also of one that no table has.
+#![tactic(auto)]
+
 ghost use Rattle.std.specs.Prelude.{[], ◌∷◌, ◌≡◌, length};
 ghost use Rattle.model.specs.Checks.{demand_amounts, report, verdict};
 ghost use Rattle.model.specs.Calls.{domestic_demand_report};

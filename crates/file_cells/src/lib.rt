@@ -1,4 +1,6 @@
 // Question 2 and the walk over a table file, into one slice of 1,880 cells; and a part of these cells into a lent slice.
+#![tactic(auto)]
+
 ghost use Rattle.std.specs.Prelude.{◌≡◌, ◌+◌, ◌≤◌, length, replicate};
 ghost use Rattle.model.specs.File.{fits, called, answer_of, cell_limit};
 ghost use Rattle.file_walk.specs.Steps.{Held};

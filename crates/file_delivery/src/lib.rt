@@ -1,4 +1,6 @@
 // The reader's cells, one slice of 1,880, part by part into the lent slices.
+#![tactic(auto)]
+
 ghost use Rattle.std.specs.Prelude.{List, ◌≡◌, ℕ, length};
 ghost use Rattle.model.specs.CallContracts.{Delivered, reading_into, slices_of};
 ghost use Rattle.model.specs.File.{Reading, cell_limit};

@@ -1,5 +1,7 @@
 // Named cells as the records of a table file, into lent bytes. Every function writes from `at` on, keeps every other byte, and answers the next
 // free place.
+#![tactic(auto)]
+
 ghost use Rattle.std.specs.Prelude.{◌≡◌, ℕ, ◌+◌, ◌<◌, ◌≤◌, length};
 ghost use Rattle.std.proofs.lemmas.List.Edits.{sets};
 ghost use Rattle.model.specs.Numbers.{cell};

@@ -1,4 +1,6 @@
 // The reader of a table file. The walk works over cells of its own, one slice of 1,880; they are delivered at the end.
+#![tactic(auto)]
+
 ghost use Rattle.model.specs.Checks.{report_read};
 ghost use Rattle.model.specs.CallContracts.{FileRead, slices_of};
 

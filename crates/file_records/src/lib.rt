@@ -1,4 +1,6 @@
 // The records of a table file: what stands at an offset of a lent file.
+#![tactic(auto)]
+
 ghost use Rattle.std.specs.Prelude.{◌&&◌, ◌≡◌, ◌+◌, ◌^◌, ◌<◌, ◌≤◌, leb, length};
 ghost use Rattle.model.specs.Numbers.{cell};
 ghost use Rattle.model.specs.File.{record_lengths, column_words, whole_at, inside_at, amount_from, entry_at};

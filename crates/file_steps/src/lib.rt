@@ -1,4 +1,6 @@
 // The questions of a table file, record by record: of the first record, and of one after it, by the marks of the cells named so far.
+#![tactic(auto)]
+
 ghost use Rattle.std.specs.Prelude.{List, ◌≡◌, ℕ, ◌≤◌, length};
 ghost use Rattle.model.specs.Table.{sector_limit};
 ghost use Rattle.model.specs.File.{kind_at, word_limit};

@@ -1,4 +1,6 @@
 // The walk over the records of a table file, into one slice of 1,880 cells and one of 47 words of marks.
+#![tactic(auto)]
+
 ghost use Rattle.std.specs.Prelude.{List, [], ◌∷◌, ◌≡◌, ℕ, ◌≤◌, length, replicate};
 ghost use Rattle.model.specs.Table.{sector_limit};
 ghost use Rattle.model.specs.File.{Entry, Within, Reading, walk as walk_from, reading, answer_of, mark_total, cell_limit, word_limit};

@@ -1,4 +1,6 @@
 // A table as a file: its questions, and `write_table`.
+#![tactic(auto)]
+
 ghost use Rattle.std.specs.Prelude.{[], ◌≡◌};
 ghost use Rattle.model.specs.Checks.{report, report_written, verdict};
 ghost use Rattle.model.specs.Writer.{writer_checks};

@@ -1,4 +1,6 @@
 // What a scheme adds: the rise of production from one demand to another.
+#![tactic(auto)]
+
 ghost use Rattle.model.specs.Checks.{report_rounds};
 ghost use Rattle.model.specs.CallContracts.{Compared};
 

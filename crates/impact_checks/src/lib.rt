@@ -1,4 +1,6 @@
 // The questions of what a scheme adds: of a domestic sheet and of two demands.
+#![tactic(auto)]
+
 ghost use Rattle.std.specs.Prelude.{[], ◌∷◌, ◌++◌, ◌≡◌, length};
 ghost use Rattle.model.specs.Checks.{report, demand_checks, not_below, verdict};
 ghost use Rattle.model.specs.Calls.{matrix_checks};

@@ -1,4 +1,6 @@
 // Two demands settled one after the other, and the rise of production between them.
+#![tactic(auto)]
+
 ghost use Rattle.std.specs.Prelude.{◌≡◌, length};
 ghost use Rattle.model.specs.Numbers.{at, tabulate};
 ghost use Rattle.model.specs.Checks.{report_rounds};

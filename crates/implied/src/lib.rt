@@ -1,4 +1,6 @@
 // The demand for domestic goods behind a given production.
+#![tactic(auto)]
+
 ghost use Rattle.std.specs.Prelude.{[], ◌∷◌, ◌≡◌, ℕ, ◌*◌, ◌<◌, ◌≤◌, length};
 ghost use Rattle.model.specs.Numbers.{at, cell};
 ghost use Rattle.model.specs.Rounds.{implied_demand, weighted};

@@ -1,4 +1,6 @@
 // Value added and imports that a production induces.
+#![tactic(auto)]
+
 ghost use Rattle.std.specs.Prelude.{[], ◌∷◌, ◌≡◌, ℕ, ◌*◌, ◌<◌, ◌≤◌, length};
 ghost use Rattle.model.specs.Numbers.{at, cell, one, sum};
 ghost use Rattle.model.specs.Table.{sector_limit};

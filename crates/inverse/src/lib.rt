@@ -1,4 +1,6 @@
 // The Leontief inverse with its power and sensitivity of dispersion, and a sector's row of a sheet.
+#![tactic(auto)]
+
 ghost use Rattle.std.specs.Prelude.{◌≡◌};
 ghost use Rattle.model.specs.Rounds.{has_row, row_slice};
 ghost use Rattle.model.specs.Checks.{report_rounds};

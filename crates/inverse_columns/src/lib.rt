@@ -1,4 +1,6 @@
 // The Leontief inverse, column by column.
+#![tactic(auto)]
+
 ghost use Rattle.std.specs.Prelude.{[], ◌∷◌, ◌≡◌, ◌*◌, ◌<◌, length};
 ghost use Rattle.model.specs.Rounds.{inverse, inverse_rounds};
 ghost use Rattle.model.specs.Checks.{report, report_rounds, verdict, output, columns_settle};

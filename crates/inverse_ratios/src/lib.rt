@@ -1,4 +1,6 @@
 // The ratios of a sheet: each column sum, or each row sum, against all cells.
+#![tactic(auto)]
+
 ghost use Rattle.std.specs.Prelude.{◌≡◌, ◌*◌, ◌<◌, length};
 ghost use Rattle.model.specs.Numbers.{at, oriented, column_sum, all_cells};
 ghost use Rattle.model.specs.Rounds.{dispersion};

@@ -1,4 +1,6 @@
 // Leaves over words of marks: one bit asked, one bit set, and the ones counted, of a word and of all words, which may be cleared with it.
+#![tactic(auto)]
+
 ghost use Rattle.std.specs.Prelude.{◌&&◌, ◌||◌, ◌≡◌, ℕ, ◌<◌, eqb, length, replicate};
 ghost use Rattle.model.specs.Numbers.{word_positions, set_positions};
 ghost use Rattle.model.specs.File.{marked, mark_total, word_limit};

@@ -1,5 +1,6 @@
 // The numbers of document 01 as the code has them, and the answers of the public calls. What they mean, and every other definition of document 01,
 // stands in specs/.
+#![tactic(auto)]
 
 // "One", the unit of shares and coefficients (`one`).
 pub const ONE: u64 = 1_000_000;

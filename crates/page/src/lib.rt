@@ -1,4 +1,6 @@
 // The page of a table file, into a buffer of its exact length: `write_page`.
+#![tactic(auto)]
+
 ghost use Rattle.model.specs.Checks.{report_page};
 ghost use Rattle.model.specs.CallContracts.{PagePrinted};
 

@@ -1,5 +1,7 @@
 // From a table to the figures of its printed sheet: its sheets, production, induced amounts. The table lies in one slice, as the walk over a
 // table file leaves it (`table_in`). No text here.
+#![tactic(auto)]
+
 ghost use Rattle.std.specs.Prelude.{◌≡◌, ◌≤◌, ◌*◌, length};
 ghost use Rattle.model.specs.Table.{sector_limit};
 ghost use Rattle.model.specs.Checks.{report_rounds};

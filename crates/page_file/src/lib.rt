@@ -1,4 +1,6 @@
 // A table file read, worked out and printed into a buffer that holds its page.
+#![tactic(auto)]
+
 ghost use Rattle.std.specs.Prelude.{◌≡◌, ◌≤◌, length};
 ghost use Rattle.std.proofs.lemmas.List.Edits.{sets};
 ghost use Rattle.model.specs.Table.{sector_limit};

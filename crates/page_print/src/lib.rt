@@ -1,4 +1,6 @@
 // What is printed of a file, a refusal's line or a sheet of figures, and its text in a buffer.
+#![tactic(auto)]
+
 ghost use Rattle.std.specs.Prelude.{◌≡◌, ◌≤◌, length};
 ghost use Rattle.std.proofs.lemmas.List.Edits.{sets};
 ghost use Rattle.model.specs.Table.{sector_limit};

@@ -1,4 +1,6 @@
 // The second and third call on the way to a printed sheet: production of a demand for domestic goods, and what it induces.
+#![tactic(auto)]
+
 ghost use Rattle.std.specs.Prelude.{◌≡◌, ◌≤◌, length};
 ghost use Rattle.model.specs.Table.{sector_limit};
 ghost use Rattle.model.specs.Checks.{report_rounds};

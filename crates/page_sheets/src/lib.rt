@@ -1,5 +1,7 @@
 // The first call on the way to a printed sheet: the sheets of a table. The table lies in one slice of 1,880 cells, as the walk over a table file
 // leaves it: x row by row from cell 0 on, and a column every 40 cells from cell 1,600 on.
+#![tactic(auto)]
+
 ghost use Rattle.std.specs.Prelude.{◌≡◌, ◌≤◌, ◌*◌, length};
 ghost use Rattle.model.specs.Table.{sector_limit};
 ghost use Rattle.model.specs.Checks.{report};

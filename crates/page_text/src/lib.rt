@@ -1,4 +1,6 @@
 // Text into a lent buffer. Every function writes from `at` on, keeps every other byte, and answers the next free place.
+#![tactic(auto)]
+
 ghost use Rattle.std.specs.Prelude.{◌≡◌, ◌∷◌, map, ◌+◌, ◌≤◌, length};
 ghost use Rattle.std.proofs.lemmas.List.Edits.{sets};
 ghost use Rattle.model.specs.Text.{decimal, rest, line};

@@ -1,4 +1,6 @@
 // Sector order for storage: a table with its sectors in another order, and the inverse list.
+#![tactic(auto)]
+
 ghost use Rattle.model.specs.Table.{table_by};
 ghost use Rattle.model.specs.Checks.{report};
 ghost use Rattle.model.specs.CallContracts.{Permuted};

@@ -1,4 +1,6 @@
 // Leaves over a list of sectors: the place of a sector in it, its inverse list, and a column and the flows in its order.
+#![tactic(auto)]
+
 ghost use Rattle.std.specs.Prelude.{◌≡◌, ℕ, ◌*◌, ◌<◌, ◌≤◌, length};
 ghost use Rattle.model.specs.Numbers.{cell};
 ghost use Rattle.model.specs.Table.{sector_limit};

@@ -1,4 +1,6 @@
 // The questions of rearranging a table: the lengths, the amounts, and the list of sectors.
+#![tactic(auto)]
+
 ghost use Rattle.std.specs.Prelude.{[], ◌∷◌, ◌≡◌, ◌<◌, length};
 ghost use Rattle.model.specs.Table.{table_by};
 ghost use Rattle.model.specs.Checks.{report, verdict};

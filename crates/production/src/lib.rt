@@ -1,4 +1,6 @@
 // Production from demand, and prices from direct rises.
+#![tactic(auto)]
+
 ghost use Rattle.std.specs.Prelude.{◌≡◌, ℕ, ◌<◌, ◌≤◌, length};
 ghost use Rattle.model.specs.Numbers.{at, cell, transposed};
 ghost use Rattle.model.specs.Checks.{report_rounds, demand_limit};

@@ -1,5 +1,7 @@
 // What the program `roadsheet` does: a table file from standard input, its page to standard output. 12,889 bytes always decide the page
 // (`prefix_prints`), so input beyond the buffer cannot change it.
+#![tactic(auto)]
+
 ghost use Rattle.std.specs.Prelude.{length};
 ghost use Rattle.program.specs.Inputs.{Inside};
 

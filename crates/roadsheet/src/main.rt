@@ -1,4 +1,6 @@
 // Prints the sheet of a table file: see `program`.
+#![tactic(auto)]
+
 fn main() {
     program::run();
 }

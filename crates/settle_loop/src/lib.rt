@@ -1,4 +1,6 @@
 // The settling loop: rounds along the rows of a matrix until one changes no sector.
+#![tactic(auto)]
+
 ghost use Rattle.std.specs.Prelude.{◌≡◌, length};
 ghost use Rattle.model.specs.Numbers.{at};
 ghost use Rattle.model.specs.Checks.{report_rounds};

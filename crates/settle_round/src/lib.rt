@@ -1,4 +1,6 @@
 // One round of a settling loop, over lent slices.
+#![tactic(auto)]
+
 ghost use Rattle.std.specs.Prelude.{true, ◌≡◌, ℕ, ◌*◌, ◌-◌, ◌<◌, ◌≤◌, eqb, length};
 ghost use Rattle.model.specs.Numbers.{at, cell, same, tabulate};
 ghost use Rattle.model.specs.Rounds.{round, weighted};

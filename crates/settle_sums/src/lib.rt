@@ -1,5 +1,7 @@
 // The weighted sums along the rows of a matrix, which a settling loop carries from round to round: how they are kept, how increments are added to
 // them, and what industry takes by them. No other crate knows their form.
+#![tactic(auto)]
+
 ghost use Rattle.std.specs.Prelude.{true, List, ◌≡◌, ℕ, ◌+◌, ◌*◌, ◌-◌, ◌<◌, ◌≤◌, length};
 ghost use Rattle.model.specs.Numbers.{at, cell};
 ghost use Rattle.theory_rounds.specs.Bounds.{sum_limit, Narrow, narrow_limit};

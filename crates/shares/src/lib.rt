@@ -1,4 +1,6 @@
 // Shares in millionths: of a part in its whole, to the nearest, and what a share takes of an amount, rounded down.
+#![tactic(auto)]
+
 ghost use Rattle.std.specs.Prelude.{◌≡◌, ◌*◌, ◌^◌, ◌<◌, ◌≤◌};
 ghost use Rattle.model.specs.Table.{nearest, portion, share};
 ghost use Rattle.model.specs.Checks.{amount_limit};

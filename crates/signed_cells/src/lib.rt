@@ -1,4 +1,6 @@
 // Leaves over signed numbers, and over lent slices of them.
+#![tactic(auto)]
+
 ghost use Rattle.std.specs.Prelude.{◌≡◌, ◌^◌, ◌<◌, pos, length, replicate};
 ghost use Rattle.std.proofs.Math.IntN.{sub_ℕ};
 

@@ -1,4 +1,6 @@
 // Questions 16, 4, 5 and 6 of a table, each by itself, as scans over lent slices; and domestic need.
+#![tactic(auto)]
+
 ghost use Rattle.std.specs.Prelude.{[], ◌∷◌, ◌≡◌, ℕ, ◌+◌, ◌*◌, ◌<◌, ◌≤◌, length};
 ghost use Rattle.model.specs.Numbers.{cell};
 ghost use Rattle.model.specs.Table.{absorption, table_of, table_by, sector_limit};

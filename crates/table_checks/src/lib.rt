@@ -1,4 +1,6 @@
 // The questions of a table, in their order: the lengths and amounts of its slices, then what its balances ask.
+#![tactic(auto)]
+
 ghost use Rattle.std.specs.Prelude.{[], ◌∷◌, ◌++◌, ◌≡◌, ◌+◌, ◌*◌, length};
 ghost use Rattle.model.specs.Table.{table_by};
 ghost use Rattle.model.specs.Checks.{balance_checks, lengths, report, size, table_amounts, verdict};

@@ -1,4 +1,6 @@
 // The demand for domestic goods, filled for `coefficients` and for `domestic_demand`.
+#![tactic(auto)]
+
 ghost use Rattle.std.specs.Prelude.{◌≡◌, ℕ, ◌<◌, ◌≤◌, length};
 ghost use Rattle.model.specs.Numbers.{cell, one};
 ghost use Rattle.model.specs.Table.{domestic_demand};

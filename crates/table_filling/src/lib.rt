@@ -1,4 +1,6 @@
 // The questions of a table, and where they are passed its sheets.
+#![tactic(auto)]
+
 ghost use Rattle.std.specs.Prelude.{true, [], ◌∷◌, ◌≡◌, length};
 ghost use Rattle.model.specs.Table.{table_by};
 ghost use Rattle.model.specs.Checks.{report, verdict};

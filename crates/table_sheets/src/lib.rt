@@ -1,4 +1,6 @@
 // The sheets of a table, filled one at a time: input coefficients, shares and domestic coefficients; and the demand for domestic goods with them.
+#![tactic(auto)]
+
 ghost use Rattle.std.specs.Prelude.{[], ◌∷◌, ◌≡◌, ℕ, ◌*◌, ◌-◌, ◌<◌, ◌≤◌, length};
 ghost use Rattle.model.specs.Numbers.{at, cell, matrix, one, tabulate};
 ghost use Rattle.model.specs.Table.{absorption, domestic_demand, portion, share, sector_limit};

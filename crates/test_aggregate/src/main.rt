@@ -1,5 +1,7 @@
 // Runs the call that merges sectors on the example of 13 sectors, merged to 4, to single sectors and to one, and on tables of one and two sectors,
 // and prints each answer with every output cell. Each slice that is lent holds 7 in every cell before the call.
+#![tactic(auto)]
+
 use aggregate::aggregate;
 use test_show::{show_answer, show_table, show_word};
 

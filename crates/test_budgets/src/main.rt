@@ -1,4 +1,6 @@
 // Runs the calls that settle on slow sheets, with the rounds that always suffice, with just enough and with one fewer, and prints each answer.
+#![tactic(auto)]
+
 use impact::impact;
 use inverse::inverse;
 use model::{PRICE_BUDGET, PRODUCTION_BUDGET};

@@ -1,5 +1,7 @@
 // Runs `domestic_demand` on worked cases and on their neighbours, and prints each answer with every output cell. The slice that is lent holds 7 in every
 // cell before the call.
+#![tactic(auto)]
+
 use domestic_demand::domestic_demand;
 use test_show::{show_answer, show_end, show_first, show_word};
 

@@ -1,6 +1,8 @@
 // Runs the call that writes a table as a file on the worked table of document 01 and its neighbours, and prints each answer with the bytes of the
 // file, and after a bar what the bytes after the file hold together, by `or`. Every byte that is lent is 7 before the call. Then the call that reads
 // a file, with n and how many cells are named, and after a bar how many marks are left; and the ones of single words.
+#![tactic(auto)]
+
 use file_reader::read_table;
 use file_writer::write_table;
 use marks::{count_marks, ones};

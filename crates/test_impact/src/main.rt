@@ -1,5 +1,7 @@
 // Runs `impact` on worked cases and on their neighbours, and prints each answer with every output and work cell. Each slice that is lent holds 7 in
 // every cell before the call.
+#![tactic(auto)]
+
 use impact::impact;
 use model::PRODUCTION_BUDGET;
 use production::production;

@@ -1,5 +1,7 @@
 // Runs `implied_demand` on productions that leave sectors short, on its limits and on slices of other lengths, and prints each answer with every output
 // cell. Each slice that is lent holds 7 in every cell before the call.
+#![tactic(auto)]
+
 use implied::implied_demand;
 use test_show::{show_answer, show_end, show_first_signed, show_word};
 

@@ -1,5 +1,7 @@
 // Runs the calls for induced amounts, the Leontief inverse and a sector's row on the worked table's sheets and their neighbours, and prints each answer
 // with every output cell. Each slice that is lent holds 7 in every cell before the call.
+#![tactic(auto)]
+
 use induced::induced;
 use inverse::{inverse, row};
 use model::PRICE_BUDGET;

@@ -1,4 +1,6 @@
 // `roadsheet` on an input that is longer than its buffer.
+#![tactic(auto)]
+
 fn main() {
     program::run();
 }

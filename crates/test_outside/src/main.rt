@@ -1,5 +1,7 @@
 // Works out figures that document 001 prints, by the proved calls and leaves, and prints them; docs/OUTSIDE.md sets the two side by side. Its table 3-1 does
 // not balance as printed, so its shares are taken by the leaves, and the calls here but one ask no balance. Shares and the inverse are in millionths.
+#![tactic(auto)]
+
 use coefficients::coefficients;
 use implied::implied_demand;
 use induced::induced;

@@ -1,5 +1,7 @@
 // Prints the pages of several files. Each stands in standard input after its length, two bytes, highest first; a line with that length comes
 // before its page.
+#![tactic(auto)]
+
 ghost use Rattle.std.specs.Prelude.{◌≤◌, ◌<◌, length};
 
 use libc::{STDIN_FILENO, STDOUT_FILENO};

@@ -1,5 +1,7 @@
 // Runs the call that rearranges a table on the worked table of document 01, on three sectors there and back, on one sector, on 40 and on faulty lists, and
 // prints each answer with every output cell. Each slice that is lent holds 7 in every cell before the call.
+#![tactic(auto)]
+
 use permute::permute;
 use test_show::{show_answer, show_table, show_word};
 

@@ -1,5 +1,7 @@
 // Works out the sheets of three sectors, and on them production and prices, before their table is rearranged by 1 2 0 and after, and prints each answer with
 // every output cell. test_permute rearranges the table. Each slice that is lent holds 7 in every cell before the call.
+#![tactic(auto)]
+
 use coefficients::coefficients;
 use production::{price, production};
 use test_show::{show_answer, show_outcome, show_sheets, show_slices, show_word};

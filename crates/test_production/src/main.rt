@@ -1,5 +1,7 @@
 // Runs the calls on the worked cases of document 01 and on their neighbours, and prints each answer with every output and work cell. Each
 // slice that is lent holds 7 in every cell before the call.
+#![tactic(auto)]
+
 use implied::implied_demand;
 use model::{PRICE_BUDGET, PRODUCTION_BUDGET};
 use production::{price, production};

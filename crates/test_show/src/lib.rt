@@ -1,4 +1,6 @@
 // Printing for the test programs: answers, cells and bytes.
+#![tactic(auto)]
+
 use io::print_decimal;
 use libc::STDOUT_FILENO;
 use model::{Answer, Outcome, TableRead, TableWritten};

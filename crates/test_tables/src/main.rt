@@ -1,5 +1,7 @@
 // Runs the call for sheets from a table on the worked table of document 01, its neighbours and a printed table of document 001, and prints each answer
 // with every output cell. Each slice that is lent holds 7 in every cell before the call.
+#![tactic(auto)]
+
 use coefficients::coefficients;
 use test_show::{show_answer, show_sheets, show_word};
 
