@@ -4,7 +4,7 @@ use Rattle.file_encoding.proofs.put_amount.Statement.{statement}
 use Rattle.file_encoding.proofs.put_amount.Tie as tie
 
 returns : tie.Need-returns
-returns c = c.before.before.put-bytes.ensures
+returns c = c.before.before.put_bytes.ensures
 
 pub put_amount_spec : {M : Type 1} → statement M
 put_amount_spec =

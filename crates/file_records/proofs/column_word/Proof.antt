@@ -9,7 +9,7 @@ use Rattle.file_records.proofs.RecordLaws.{column_digit}
 use Rattle.file_records.proofs.column_word.Statement.{statement}
 use Rattle.file_records.proofs.column_word.Tie as tie
 
-shr-result : tie.Need-overflow-shr-result
+shr-result : tie.Need-overflow_shr-result
 shr-result c = omega (arith, known_kind c.before.args.kind (omega (arith, c.before.requires)), c.wide.ensures.0)
 
 returns : tie.Need-returns

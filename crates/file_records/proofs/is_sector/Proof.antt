@@ -8,13 +8,13 @@ use lib.Dec.{leb}
 use Rattle.file_records.proofs.is_sector.Statement.{statement}
 use Rattle.file_records.proofs.is_sector.Tie as tie
 
-returns : tie.Need-returns
+returns : tie.Need-returns-then-sector-lt1
 returns c = rw (lt-leb 1 c.before.before.args.b (omega arith))
 
-returns-2 : tie.Need-returns-2
+returns-2 : tie.Need-returns
 returns-2 c =
     let a = c.before.before.args in
-    rw (le-leb 1 a.b (omega arith)) (ap (λ (t : ℕ). leb t a.n) c.before.wide.ensures.0)
+    rw (le-leb 1 a.b (omega arith)) (ap (λ (t : ℕ). leb t a.n) c.before.wide-sector.ensures.0)
 
 pub is_sector_spec : {M : Type 1} → statement M
 is_sector_spec = tie.close (tie.spec (λ c κs. search rules) returns returns-2)

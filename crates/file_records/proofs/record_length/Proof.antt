@@ -9,10 +9,10 @@ use Rattle.file_records.proofs.RecordLaws.{length_digit}
 use Rattle.file_records.proofs.record_length.Statement.{statement}
 use Rattle.file_records.proofs.record_length.Tie as tie
 
-returns : tie.Need-returns
-returns c = length_digit _ c.before.wide.result c.if1.true refl ∙ ap (cell record_lengths) c.before.wide.ensures.0
+returns : tie.Need-returns-then-k-lt11
+returns c = length_digit _ c.before.wide-k.result c.if-k-lt11.true refl ∙ ap (cell record_lengths) c.before.wide-k.ensures.0
 
-returns-2 : tie.Need-returns-2
+returns-2 : tie.Need-returns
 returns-2 c = sym (get_or-eq_default record_lengths 0 {n = c.before.before.args.kind} (omega arith))
 
 pub record_length_spec : {M : Type 1} → statement M

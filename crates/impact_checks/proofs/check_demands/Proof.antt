@@ -7,41 +7,41 @@ use Rattle.theory.proofs.Verdicts.{answered_on, answered_end}
 use Rattle.impact_checks.proofs.check_demands.Statement.{statement}
 use Rattle.impact_checks.proofs.check_demands.Tie as tie
 
-abbrev entry : tie.After-cells-within → tie.Start
+abbrev entry : tie.After-cells_within-first → tie.Start
 entry q = q.before.before.before
 
 -- question 8 of the first demand, of the second, and question 17
-abbrev first : tie.After-cells-within → List Check
+abbrev first : tie.After-cells_within-first → List Check
 first q = bounded 8 0 demand_limit (entry q).args.before.now ∷ []
 
-abbrev second : tie.After-cells-within → List Check
+abbrev second : tie.After-cells_within-first → List Check
 second q = bounded 8 0 demand_limit (entry q).args.after.now ∷ []
 
-abbrev last : tie.After-cells-within → List Check
+abbrev last : tie.After-cells_within-first → List Check
 last q = let a = (entry q).args in not_below a.n a.before.now a.after.now ∷ []
 
-returns : tie.Need-returns
+returns : tie.Need-returns-in_default
 returns c =
-    let q = c.before.before in
-    answered_end (first q) q.cells-within.ensures (second q ++ last q) c.enum-told2.given.1
+    let q = c.before in
+    answered_end (first q) q.cells_within-first.ensures (second q ++ last q) c.in_default.is
 
 -- where the first passes, the others decide
-on : (p : tie.After-enum-told) → let q = p.before.before in verdict (second q ++ last q) [] ≡ verdict (first q ++ second q ++ last q) []
+on : (p : tie.In-Accepted) → let q = p.before in verdict (second q ++ last q) [] ≡ verdict (first q ++ second q ++ last q) []
 on p =
-    let q = p.before.before in
-    answered_on (first q) q.cells-within.ensures (second q ++ last q) [] p.enum_told.given.1
+    let q = p.before in
+    answered_on (first q) q.cells_within-first.ensures (second q ++ last q) [] p.in-Accepted.is
 
-returns-2 : tie.Need-returns-2
+returns-2 : tie.Need-returns-in_default-second
 returns-2 c =
-    let p = c.before.before.before in
-    let q = p.before.before in
-    answered_end (second q) c.before.before.cells-within2.ensures (last q) c.enum-told4.given.1 ∙ on p
+    let p = c.before.before in
+    let q = p.before in
+    answered_end (second q) c.before.cells_within-second.ensures (last q) c.in_default-second.is ∙ on p
 
-returns-3 : tie.Need-returns-3
+returns-3 : tie.Need-returns
 returns-3 c =
-    let p = c.before.before.before.before in
-    let q = p.before.before in
-    c.not-below.ensures ∙ answered_on (second q) c.before.before.before.cells-within2.ensures (last q) [] c.before.enum-told3.given.1 ∙ on p
+    let p = c.before.before.before in
+    let q = p.before in
+    c.not_below.ensures ∙ answered_on (second q) c.before.before.cells_within-second.ensures (last q) [] c.before.in-Accepted-second.is ∙ on p
 
 pub check_demands_spec : {M : Type 1} → statement M
 check_demands_spec =

@@ -10,34 +10,34 @@ use Rattle.theory.proofs.Verdicts.{answered_pass, answered_on, answered_end, acc
 use Rattle.impact_checks.proofs.check_impact.Statement.{statement}
 use Rattle.impact_checks.proofs.check_impact.Tie as tie
 
-abbrev entry : tie.After-check-domestic → tie.Start
+abbrev entry : tie.After-check_domestic-matrix → tie.Start
 entry q = q.before.before.before.before.before
 
 -- questions 1, 2 and 7 of the call's slices, and those of the demands
-abbrev lent : tie.After-check-domestic → List ℕ
-lent q = let a = (entry q).args in length a.before.now ∷ length a.after.now ∷ a.out-len ∷ a.work-len ∷ []
+abbrev lent : tie.After-check_domestic-matrix → List ℕ
+lent q = let a = (entry q).args in length a.before.now ∷ length a.after.now ∷ a.out_len ∷ a.work_len ∷ []
 
-abbrev asked : tie.After-check-domestic → List Check
+abbrev asked : tie.After-check_domestic-matrix → List Check
 asked q = let a = (entry q).args in matrix_checks a.n a.d.now [] (lent q)
 
-abbrev last : tie.After-check-domestic → List Check
+abbrev last : tie.After-check_domestic-matrix → List Check
 last q = let a = (entry q).args in demand_checks a.n a.before.now a.after.now
 
-returns : tie.Need-returns
+returns : tie.Need-returns-in_default
 returns c =
-    let q = c.before.before in
-    answered_end (asked q) q.check-domestic.ensures (last q) c.enum-told2.given.1
+    let q = c.before in
+    answered_end (asked q) q.check_domestic-matrix.ensures (last q) c.in_default.is
 
-returns-2 : tie.Need-returns-2
+returns-2 : tie.Need-returns
 returns-2 c =
-    let q = c.before.before.before in
-    c.check-demands.ensures ∙ answered_on (asked q) q.check-domestic.ensures (last q) [] c.before.enum_told.given.1
-
-check-demands-requires : tie.Need-check-demands-requires
-check-demands-requires c κs =
     let q = c.before.before in
+    c.check_demands.ensures ∙ answered_on (asked q) q.check_domestic-matrix.ensures (last q) [] c.before.in-Accepted.is
+
+check-demands-requires : tie.Need-check_demands-requires
+check-demands-requires c κs =
+    let q = c.before in
     let a = (entry q).args in
-    let l = (accepted_matrix a.n a.d.now [] (lent q) (answered_pass (asked q) q.check-domestic.ensures c.enum_told.given.1)).1 in
+    let l = (accepted_matrix a.n a.d.now [] (lent q) (answered_pass (asked q) q.check_domestic-matrix.ensures c.in-Accepted.is)).1 in
     (l.0, l.1.0)
 
 pub check_impact_spec : {M : Type 1} → statement M

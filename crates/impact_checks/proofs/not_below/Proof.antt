@@ -7,25 +7,25 @@ use Rattle.theory.proofs.Verdicts.{Scan, scan_none, scan_more, scan_failed_each,
 use Rattle.impact_checks.proofs.not_below.Statement.{statement}
 use Rattle.impact_checks.proofs.not_below.Tie as tie
 
-abbrev invariant-loop : tie.invariant-loop
+abbrev invariant-loop : tie.invariant-loop-i
 invariant-loop n before after i₀ i = Scan (not_below n before after) i
 
-abbrev decreases-loop : tie.decreases-loop
+abbrev decreases-loop : tie.decreases-loop-i
 decreases-loop n before after i₀ i = n - i
 
-returns : tie.Need-returns invariant-loop decreases-loop
+returns : tie.Need-returns-then-after-i invariant-loop decreases-loop
 returns c =
     let q = c.before.before.before in
-    scan_failed_each q.before.loop.invariant q.loop-test.true (lt-leb _ _ c.if1.true)
+    scan_failed_each q.before.loop-i.invariant q.loop-i-test.true (lt-leb _ _ c.if-after-i.true)
 
-loop-again : tie.Need-loop-preserved invariant-loop decreases-loop
+loop-again : tie.Need-loop-i-preserved invariant-loop decreases-loop
 loop-again c =
     let q = c.before.before.before in
-    scan_more q.before.loop.invariant q.loop-test.true (le-leb _ _ c.if1.false)
+    scan_more q.before.loop-i.invariant q.loop-i-test.true (le-leb _ _ c.if-after-i.false)
 
 pub not_below_spec : {M : Type 1} → statement M
 not_below_spec =
     tie.close
     (tie.spec
     invariant-loop decreases-loop (λ c. scan_none) (λ c. omega arith) (λ c. omega arith) (λ c. omega arith) (λ c. omega arith) returns
-    (λ c. omega arith) (λ c. omega arith) loop-again (λ c. scan_passed c.before.loop.invariant c.loop-test.false))
+    (λ c. omega arith) (λ c. omega arith) loop-again (λ c. scan_passed c.before.loop-i.invariant c.loop-i-test.false))

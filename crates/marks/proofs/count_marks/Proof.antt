@@ -16,40 +16,40 @@ use Rattle.marks.proofs.count_marks.Tie as tie
 abbrev counts : List ℕ → ℕ → ℕ
 counts marks w = set_positions (cell marks w)
 
-abbrev invariant-loop : tie.invariant-loop
+abbrev invariant-loop : tie.invariant-loop-word
 invariant-loop marks total₀ word₀ end total word = (word ≤ length marks) × (total ≡ sum word (counts marks))
 
-abbrev decreases-loop : tie.decreases-loop
+abbrev decreases-loop : tie.decreases-loop-word
 decreases-loop marks total₀ word₀ end total word = length marks - word
 
-abbrev head : tie.After-ones invariant-loop decreases-loop → tie.At-loop invariant-loop decreases-loop
+abbrev head : tie.After-ones-total invariant-loop decreases-loop → tie.At-loop-word invariant-loop decreases-loop
 head c = c.before.before.before
 
-abbrev marks-of : tie.At-loop invariant-loop decreases-loop → List ℕ
+abbrev marks-of : tie.At-loop-word invariant-loop decreases-loop → List ℕ
 marks-of p = p.before.before.args.marks.now
 
 -- with the ones of its word the total is at most that of all
-room : (c : tie.After-ones invariant-loop decreases-loop) → let p = head c in p.loop.total + counts (marks-of p) p.loop.word ≤ word_limit * word_positions
+room : (c : tie.After-ones-total invariant-loop decreases-loop) → let p = head c in p.loop-word.total + counts (marks-of p) p.loop-word.word ≤ word_limit * word_positions
 unfolding mark_total
 room c =
     let p = head c in
     let m = marks-of p in
-    omega (arith, total_most m, sum_room (counts m) p.loop.word word_limit p.loop.total p.loop.inv.1 (omega (arith, c.before.before.loop-test.true, p.before.before.pre)))
+    omega (arith, total_most m, sum_room (counts m) p.loop-word.word word_limit p.loop-word.total p.loop-word.inv.1 (omega (arith, c.before.before.loop-word-test.true, p.before.before.requires)))
 
-add_total : tie.Need-overflow-add-total invariant-loop decreases-loop
-add_total c = omega (arith, room c, c.ones.ensures)
+add_total : tie.Need-overflow_add-total invariant-loop decreases-loop
+add_total c = omega (arith, room c, c.ones-total.ensures)
 
-loop-again : tie.Need-loop-preserved invariant-loop decreases-loop
+loop-again : tie.Need-loop-word-preserved invariant-loop decreases-loop
 loop-again c =
     let p = head c in
-    let w = p.loop.word in
-    (omega (arith, c.before.before.loop-test.true), ap (λ (k : ℕ). p.loop.total + k) c.ones.ensures ∙ sum_more (counts (marks-of p)) w p.loop.total p.loop.inv.1)
+    let w = p.loop-word.word in
+    (omega (arith, c.before.before.loop-word-test.true), ap (λ (k : ℕ). p.loop-word.total + k) c.ones-total.ensures ∙ sum_more (counts (marks-of p)) w p.loop-word.total p.loop-word.inv.1)
 
 returns : tie.Need-returns invariant-loop decreases-loop
 unfolding mark_total
 returns c =
     let p = c.before in
-    sum_done (counts (marks-of p)) p.loop.word word_limit p.loop.total p.loop.invariant.1 (omega (arith, p.loop.invariant.0, p.before.before.requires)) (omega (arith, c.loop-test.false, p.before.before.requires))
+    sum_done (counts (marks-of p)) p.loop-word.word word_limit p.loop-word.total p.loop-word.invariant.1 (omega (arith, p.loop-word.invariant.0, p.before.before.requires)) (omega (arith, c.loop-word-test.false, p.before.before.requires))
 
 pub count_marks_spec : {M : Type 1} → statement M
 count_marks_spec =

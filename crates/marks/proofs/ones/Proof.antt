@@ -4,7 +4,7 @@ use Rattle.marks.proofs.OneLaws.{ones_set, ones_fit}
 use Rattle.marks.proofs.ones.Statement.{statement}
 use Rattle.marks.proofs.ones.Tie as tie
 
-cast-result : tie.Need-overflow-cast-result
+cast-result : tie.Need-overflow_cast-result
 cast-result c = record { fits = ones_fit _ (omega arith) }
 
 returns : tie.Need-returns

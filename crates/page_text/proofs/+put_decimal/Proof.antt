@@ -37,14 +37,14 @@ last t c = (48 + c.before.before.args.amount % 10) ∷ []
 begun :
     (t : ℕ) (c : Meet t) →
     let a = c.before.before.args in
-    Begun (decimal a.amount) a.at a.out.now c.if1.out c.if1.next (last t c)
+    Begun (decimal a.amount) a.at a.out-1.now c.if-amount-ge10.out c.if-amount-ge10.next (last t c)
 begun t c =
     let a = c.before.before.args in
-    let b = begin (decimal a.amount) a.at a.out.now in
+    let b = begin (decimal a.amount) a.at a.out-1.now in
     ⊎_elim
     (λ w. go_on (decimal (a.amount / 10)) (last t c) (decimal_more a.amount w.0.taken) b (w.6 ∙ w.2.ensures.0, w.5 ∙ w.2.ensures.1))
     (λ w. go_on [] (last t c) (decimal-one a.amount w.0.left) b (w.2 ∙ sym (add-zero a.at), w.1))
-    c.if1.branch
+    c.if-amount-ge10.branch
 
 put-decimal-put-decimal-requires : (t : ℕ) → put-decimal-lts.Need-put-decimal-requires (
   put-decimal-below t,
@@ -54,11 +54,11 @@ put-decimal-put-decimal-requires t c κs =
     let s = c.before.before.before in
     let a = s.args in (
       omega arith,
-      room_first (decimal (a.amount / 10)) _ (decimal_more a.amount c.before.if1.true) s.requires.1 (begin (decimal a.amount) a.at a.out.now),
+      room_first (decimal (a.amount / 10)) _ (decimal_more a.amount c.before.if-amount-ge10.true) s.requires.1 (begin (decimal a.amount) a.at a.out-1.now),
     )
 
 -- the last digit's place lies in the buffer
-inside : (t : ℕ) (c : Meet t) → c.if1.next + 1 ≤ length c.if1.out
+inside : (t : ℕ) (c : Meet t) → c.if-amount-ge10.next + 1 ≤ length c.if-amount-ge10.out
 inside t c = room c.before.before.requires.1 (begun t c)
 
 pub +put_decimal_spec : {M : Type 1} → statement M

@@ -23,44 +23,44 @@ parts cells h =
 abbrev whole : tie.Start → List ℕ
 whole s = line (map decimal s.args.cells.now)
 
-start : (s : tie.Start) → Begun (whole s) s.args.at s.args.out.now s.args.out.now s.args.at (whole s)
-start s = begin (whole s) s.args.at s.args.out.now
+start : (s : tie.Start) → Begun (whole s) s.args.at s.args.out-1.now s.args.out-1.now s.args.at (whole s)
+start s = begin (whole s) s.args.at s.args.out-1.now
 
 -- of no cells byte 10 alone is written
-none : (c : tie.Then1) → whole c.before.before.before ≡ 10 ∷ []
+none : (c : tie.Then-cells-eq0) → whole c.before.before.before ≡ 10 ∷ []
 none c = ap (λ (x : List ℕ). line (map decimal x)) (drop_of_length-le c.before.before.before.args.cells.now {i = 0} (omega arith))
 
-some : (c : tie.Else1) → let s = c.before.before.before in whole s ≡ decimal (get_or s.args.cells.now 0 0) ++ later s.args.cells.now
-some c = parts c.before.before.before.args.cells.now (omega (arith, c.if1.false))
+some : (c : tie.Else-cells-eq0) → let s = c.before.before.before in whole s ≡ decimal (get_or s.args.cells.now 0 0) ++ later s.args.cells.now
+some c = parts c.before.before.before.args.cells.now (omega (arith, c.if-cells-eq0.false))
 
 -- after the first cell the others are left
 others :
-    (c : tie.After-put-decimal) →
+    (c : tie.After-put_decimal-next) →
     let s = c.before.before.before.before.before.before in
-    Begun (whole s) s.args.at s.args.out.now c.put-decimal.new.1.1.0 c.put-decimal.result (later s.args.cells.now)
+    Begun (whole s) s.args.at s.args.out-1.now c.put_decimal-next.new.out c.put_decimal-next.result (later s.args.cells.now)
 others c =
     let s = c.before.before.before.before.before.before in
-    go_on (decimal (get_or s.args.cells.now 0 0)) (later s.args.cells.now) (some c.before.before.before) (start s) c.put-decimal.ensures
+    go_on (decimal (get_or s.args.cells.now 0 0)) (later s.args.cells.now) (some c.before.before.before) (start s) c.put_decimal-next.ensures
 
-returns : tie.Need-returns
+returns : tie.Need-returns-then-cells-eq0
 returns c =
     let s = c.before.before.before.before.before.before.before in
     done (leaves (10 ∷ []) (none c.before.before.before.before) (start s)) c.before.before.put_byte.ensures
 
-returns-2 : tie.Need-returns-2
+returns-2 : tie.Need-returns
 returns-2 c = done (others c.before.before.before.before.before.before.before) c.before.before.put_rest.ensures
 
-put-byte-requires : tie.Need-put-byte-requires
+put-byte-requires : tie.Need-put_byte-requires
 put-byte-requires c κs =
     let s = c.before.before.before.before in
     room s.requires (leaves (10 ∷ []) (none c.before) (start s))
 
-put-decimal-requires : tie.Need-put-decimal-requires
+put-decimal-requires : tie.Need-put_decimal-next-requires
 put-decimal-requires c κs =
     let s = c.before.before.before.before.before in
     room_first (decimal (get_or s.args.cells.now 0 0)) (later s.args.cells.now) (some c.before.before) s.requires (start s)
 
-put-rest-requires : tie.Need-put-rest-requires
+put-rest-requires : tie.Need-put_rest-requires
 put-rest-requires c κs =
     let p = c.before.before.before.before in
     room p.before.before.before.before.before.before.requires (others p)

@@ -8,18 +8,18 @@ use Rattle.permute_parts.proofs.leave_inverse.Statement.{statement}
 use Rattle.permute_parts.proofs.leave_inverse.Tie as tie
 
 -- where the answer is that the call was accepted
-accepted : (p : tie.After-enum-told) → (report p.before.before.before.before.args.answer).accepted ≡ true
-accepted p = ap (λ (a : Answer). (report a).accepted) p.enum_told.given.1
+accepted : (p : tie.In-Accepted) → (report p.before.before.before.args.answer).accepted ≡ true
+accepted p = ap (λ (a : Answer). (report a).accepted) p.in-Accepted.is
 
-returns : tie.Need-returns
-returns c = rw c.before.before.before.before.enum_told.given.1 c.before.before.fill-inverse.ensures
+returns : tie.Need-returns-in-Accepted
+returns c = rw c.before.before.before.before.in-Accepted.is c.before.before.fill_inverse.ensures
 
-returns-2 : tie.Need-returns-2
-returns-2 c = rw c.before.before.before.before.enum-told2.given.1 c.before.before.fill-zero.ensures
+returns-2 : tie.Need-returns
+returns-2 c = rw c.before.before.before.before.in_default.is c.before.before.fill_zero.ensures
 
-fill-inverse-requires : tie.Need-fill-inverse-requires
+fill-inverse-requires : tie.Need-fill_inverse-requires
 fill-inverse-requires c κs =
-    let s = c.before.before.before.before.before in
+    let s = c.before.before.before.before in
     let ok = accepted c.before in
     s.requires ok
 

@@ -13,29 +13,29 @@ use Rattle.settle_sums.proofs.Narrowing.{own_remainder}
 use Rattle.settle_sums.proofs.add_products.Statement.{statement}
 use Rattle.settle_sums.proofs.add_products.Tie as tie
 
-abbrev invariant-loop : tie.invariant-loop
+abbrev invariant-loop : tie.invariant-loop-k
 invariant-loop n d j increment i sums₀ k₀ sums k = (k ≤ 4) × (length sums ≡ length sums₀) × Written sums i k (λ c. cell sums₀ c + at n d c j * increment) sums₀
 
-abbrev decreases-loop : tie.decreases-loop
+abbrev decreases-loop : tie.decreases-loop-k
 decreases-loop n d j increment i sums₀ k₀ sums k = 4 - k
 
 -- the sums with what the increment adds
-abbrev next : tie.At-loop invariant-loop decreases-loop → ℕ → ℕ
+abbrev next : tie.At-loop-k invariant-loop decreases-loop → ℕ → ℕ
 next p = let a = p.before.args in λ c. cell a.sums.now c + at a.n a.d.now c a.j * a.increment
 
 -- the row of a turn
-abbrev row : tie.In-loop invariant-loop decreases-loop → ℕ
-row q = q.before.before.args.i + q.before.loop.k
+abbrev row : tie.In-loop-k invariant-loop decreases-loop → ℕ
+row q = q.before.before.args.i + q.before.loop-k.k
 
-in-matrix : (q : tie.In-loop invariant-loop decreases-loop) → row q < q.before.before.args.n
-in-matrix q = omega (arith, q.before.before.requires.0.3, q.loop-test.true)
+in-matrix : (q : tie.In-loop-k invariant-loop decreases-loop) → row q < q.before.before.args.n
+in-matrix q = omega (arith, q.before.before.requires.0.3, q.loop-k-test.true)
 
-inside : (q : tie.In-loop invariant-loop decreases-loop) → let a = q.before.before.args in row q * a.n + a.j < a.n * a.n
+inside : (q : tie.In-loop-k invariant-loop decreases-loop) → let a = q.before.before.args in row q * a.n + a.j < a.n * a.n
 inside q = cell_in _ _ _ (in-matrix q) q.before.before.requires.0.2
 
 -- what is added, and what then stands there
 added :
-    (q : tie.In-loop invariant-loop decreases-loop) →
+    (q : tie.In-loop-k invariant-loop decreases-loop) →
     let a = q.before.before.args in
     at a.n a.d.now (row q) a.j % narrow_limit * a.increment ≡ at a.n a.d.now (row q) a.j * a.increment
 added q =
@@ -44,25 +44,25 @@ added q =
     ap (λ (x : ℕ). x * a.increment) (own_remainder a.n a.d.now (row q) a.j s.requires.0.0 s.requires.0.4 (in-matrix q) s.requires.0.2)
 
 stands :
-    (q : tie.In-loop invariant-loop decreases-loop) →
+    (q : tie.In-loop-k invariant-loop decreases-loop) →
     let a = q.before.before.args in
     let x = at a.n a.d.now (row q) a.j in
-    cell q.before.loop.sums (row q) + x % narrow_limit * a.increment ≡ next q.before (row q)
-stands q = ap₂ ◌+◌ (q.before.loop.invariant.2.2 (row q) (le_refl _)) (added q)
+    cell q.before.loop-k.sums (row q) + x % narrow_limit * a.increment ≡ next q.before (row q)
+stands q = ap₂ ◌+◌ (q.before.loop-k.invariant.2.2 (row q) (le_refl _)) (added q)
 
 -- both within the limit of a sum
 room :
-    (q : tie.In-loop invariant-loop decreases-loop) →
+    (q : tie.In-loop-k invariant-loop decreases-loop) →
     next q.before (row q) ≤ sum_limit
-room q = q.before.before.requires.1 (row q) (omega arith) (omega (arith, q.loop-test.true))
+room q = q.before.before.requires.1 (row q) (omega arith) (omega (arith, q.loop-k-test.true))
 
-loop-holds : tie.Need-loop-init invariant-loop decreases-loop
+loop-holds : tie.Need-loop-k-init invariant-loop decreases-loop
 loop-holds c = (omega arith, refl, written_none c.args.sums.now c.args.i _)
 
-loop-again : tie.Need-loop-preserved invariant-loop decreases-loop
+loop-again : tie.Need-loop-k-preserved invariant-loop decreases-loop
 loop-again c =
     let q = c.before.before in
-    let l = q.before.loop in
+    let l = q.before.loop-k in
     let a = q.before.before.args in (
       omega arith,
       simp length-set l.invariant.1,
@@ -71,8 +71,8 @@ loop-again c =
 
 returns : tie.Need-returns invariant-loop decreases-loop
 returns c =
-    let l = c.before.loop in
-    let four : l.k ≡ 4 = omega (arith, l.invariant.0, c.loop-test.false) in
+    let l = c.before.loop-k in
+    let four : l.k ≡ 4 = omega (arith, l.invariant.0, c.loop-k-test.false) in
     subst (λ (k : ℕ). Written l.sums c.before.before.args.i k (next c.before) c.before.before.args.sums.now) four l.invariant.2
 
 pub add_products_spec : {M : Type 1} → statement M

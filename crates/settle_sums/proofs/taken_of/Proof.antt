@@ -5,11 +5,11 @@ use Rattle.settle_sums.specs.Sums.{HasSum, taken}
 use Rattle.settle_sums.proofs.taken_of.Statement.{statement}
 use Rattle.settle_sums.proofs.taken_of.Tie as tie
 
-mul-result : tie.Need-overflow-mul-result
+mul-result : tie.Need-offset_bounds-sums-i
 unfolding HasSum
 mul-result c = search rules
 
-shared-slice-read-result : tie.Need-shared-slice-read-result
+shared-slice-read-result : tie.Need-bounds-sums-i
 unfolding HasSum
 shared-slice-read-result c = search rules
 

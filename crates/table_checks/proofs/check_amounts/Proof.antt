@@ -9,7 +9,7 @@ use Rattle.theory.proofs.Verdicts.{counted_first}
 use Rattle.table_checks.proofs.check_amounts.Statement.{statement}
 use Rattle.table_checks.proofs.check_amounts.Tie as tie
 
-abbrev entry : tie.After-next-within5 → tie.Start
+abbrev entry : tie.After-next_within-made → tie.Start
 entry c = c.before.before.before.before.before.before.before.before.before.before.before.before.before
 
 returns : tie.Need-returns
@@ -21,21 +21,21 @@ returns c =
     let q2 = q3.before in
     let q1 = q2.before in
     let a = q1.before.before.before.before.before.before.before.before.args in
-    let columns = a.final-demand.now ∷ a.exports.now ∷ a.imports.now ∷ a.value-added.now ∷ a.production.now ∷ a.adjustment.now ∷ [] in
+    let columns = a.final_demand.now ∷ a.exports.now ∷ a.imports.now ∷ a.value_added.now ∷ a.production.now ∷ a.adjustment.now ∷ [] in
     let later = map (bounded 3 0 amount_limit) columns in
     let qs = bounded 3 0 amount_limit a.x.now ∷ counted_on (length a.x.now) later in
-    c.next-within6.ensures (take 6 qs)
-    (q6.next-within5.ensures (take 5 qs)
-    (q5.next-within4.ensures (take 4 qs)
-    (q4.next-within3.ensures (take 3 qs)
-    (q3.next-within2.ensures (take 2 qs) (q2.next-within.ensures (take 1 qs) q1.matrix-within.ensures)))))
+    c.next_within.ensures (take 6 qs)
+    (q6.next_within-made.ensures (take 5 qs)
+    (q5.next_within-values.ensures (take 4 qs)
+    (q4.next_within-imported.ensures (take 3 qs)
+    (q3.next_within-abroad.ensures (take 2 qs) (q2.next_within-demands.ensures (take 1 qs) q1.matrix_within-flows.ensures)))))
     ∙ ap (λ (ps : List Check). verdict ps []) (counted_first amount_limit a.x.now later)
 
 -- six lengths of slices fit a word, and seven
-add-from-adjustment : tie.Need-overflow-add-from-adjustment
+add-from-adjustment : tie.Need-overflow_add-from_adjustment
 add-from-adjustment c = omega (arith, (entry c).well-formed)
 
-next-within-requires-6 : tie.Need-next-within-requires-6
+next-within-requires-6 : tie.Need-next_within-requires
 next-within-requires-6 c κs = omega (arith, (entry c).well-formed)
 
 pub check_amounts_spec : {M : Type 1} → statement M

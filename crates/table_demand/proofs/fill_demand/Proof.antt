@@ -10,53 +10,53 @@ use Rattle.theory.proofs.Shares.{portion_le}
 use Rattle.table_demand.proofs.fill_demand.Statement.{statement}
 use Rattle.table_demand.proofs.fill_demand.Tie as tie
 
-abbrev invariant-loop : tie.invariant-loop
+abbrev invariant-loop : tie.invariant-loop-i
 invariant-loop n m demand exports item f₀ i₀ f i = Front n (λ k. portion (one - cell m k) (cell demand k) + (cell exports k + cell item k)) f i
 
-abbrev decreases-loop : tie.decreases-loop
+abbrev decreases-loop : tie.decreases-loop-i
 decreases-loop n m demand exports item f₀ i₀ f i = n - i
 
-abbrev entry : tie.At-loop invariant-loop decreases-loop → tie.Start invariant-loop decreases-loop
+abbrev entry : tie.At-loop-i invariant-loop decreases-loop → tie.Start invariant-loop decreases-loop
 entry p = p.before.before.before.before.before.before
 
-portion-of-requires : tie.Need-portion-of-requires invariant-loop decreases-loop
+portion-of-requires : tie.Need-portion_of-domestic-requires invariant-loop decreases-loop
 portion-of-requires c κs =
     let p = c.before.before.before in
     let s = entry p in
-    let rest = sub-le one (cell s.args.m.now p.loop.i) in
-    omega (arith, mul-le-mul rest (s.pre.1.1 p.loop.i).0)
+    let rest = sub-le one (cell s.args.m.now p.loop-i.i) in
+    omega (arith, mul-le-mul rest (s.requires.1.1 p.loop-i.i).0)
 
 -- exports with the adjustment item fit, and the demand with them
-add-f : tie.Need-overflow-add-f invariant-loop decreases-loop
+add-f : tie.Need-overflow_add-f invariant-loop decreases-loop
 add-f c =
     let p = c.before.before.before.before.before.before in
-    let small = (entry p).requires.1.1 p.loop.i in
+    let small = (entry p).requires.1.1 p.loop-i.i in
     omega (arith, small.1, small.2)
 
-add-f-2 : tie.Need-overflow-add-f-2 invariant-loop decreases-loop
+add-f-2 : tie.Need-overflow_add-f-in-loop-i invariant-loop decreases-loop
 add-f-2 c =
     let p = c.before.before.before.before.before.before in
     let s = entry p in
-    let i = p.loop.i in
-    let small = s.pre.1.1 i in
+    let i = p.loop-i.i in
+    let small = s.requires.1.1 i in
     let m = cell s.args.m.now i in
-    omega (arith, c.before.before.portion-of.ensures, portion_le (one - m) (cell s.args.final-demand.now i) (sub-le one m), small.0, small.1, small.2)
+    omega (arith, c.before.before.portion_of-domestic.ensures, portion_le (one - m) (cell s.args.final_demand.now i) (sub-le one m), small.0, small.1, small.2)
 
-loop-again : tie.Need-loop-preserved invariant-loop decreases-loop
+loop-again : tie.Need-loop-i-preserved invariant-loop decreases-loop
 loop-again c =
     let q = c.before.before.before.before.before in
     let p = q.before in
     let a = (entry p).args in
-    front_set p.loop.invariant q.loop-test.true
-    (ap (λ (t : ℕ). t + (cell a.exports.now p.loop.i + cell a.adjustment.now p.loop.i)) c.before.before.portion-of.ensures)
+    front_set p.loop-i.invariant q.loop-i-test.true
+    (ap (λ (t : ℕ). t + (cell a.exports.now p.loop-i.i + cell a.adjustment.now p.loop-i.i)) c.before.before.portion_of-domestic.ensures)
 
 returns : tie.Need-returns invariant-loop decreases-loop
 unfolding domestic_demand
-returns c = front_done c.before.loop.invariant c.loop-test.false
+returns c = front_done c.before.loop-i.invariant c.loop-i-test.false
 
 pub fill_demand_spec : {M : Type 1} → statement M
 fill_demand_spec =
     tie.close
     (tie.spec
-    invariant-loop decreases-loop (λ c. front_none c.before.before.before.before.before.requires.0.4) (λ c. omega arith) (λ c. omega arith) (λ c. (entry c.before.before).pre.1.0 c.before.before.loop.i c.before.loop-test.true) (λ c. omega arith) (λ c. omega arith) portion-of-requires (λ c. omega arith) (λ c. omega arith) (λ c. omega arith) (λ c. omega arith) add-f add-f-2
+    invariant-loop decreases-loop (λ c. front_none c.before.before.before.before.before.requires.0.4) (λ c. omega arith) (λ c. omega arith) (λ c. (entry c.before.before).requires.1.0 c.before.before.loop-i.i c.before.loop-i-test.true) (λ c. omega arith) (λ c. omega arith) portion-of-requires (λ c. omega arith) (λ c. omega arith) (λ c. omega arith) (λ c. omega arith) add-f add-f-2
     (λ c. omega arith) (λ c. omega arith) (λ c. omega arith) (λ c. omega arith) loop-again (λ c. omega arith) returns)
