@@ -26,7 +26,7 @@ put-amount-requires : tie.Need-put_amount-next-requires
 put-amount-requires c κs =
     let s = c.before.before.before in
     let e : length (whole s) ≡ 7 = ap length (flow-parts c.before) in
-    let h : s.args.at + 3 + 4 ≤ length s.args.file-1.now = omega (arith, s.requires.1, e) in
+    let h : s.args.at + 3 + 4 ≤ length s.args.file.now = omega (arith, s.requires.1, e) in
     (s.requires.0.2, h)
 
 put-bytes-requires : tie.Need-put_bytes-requires
@@ -34,7 +34,7 @@ put-bytes-requires c κs =
     let q = c.before.before.before.before in
     let s = q.before.before.before.before in
     let e : length (whole s) ≡ 7 = ap length (flow-parts q.before.before) in
-    let k : length q.put_amount-next.new.file ≡ length s.args.file-1.now = ap length q.put_amount-next.ensures.1 ∙ length-sets s.args.file-1.now (s.args.at + 3) (amount_bytes s.args.amount) in
+    let k : length q.put_amount-next.new.file ≡ length s.args.file.now = ap length q.put_amount-next.ensures.1 ∙ length-sets s.args.file.now (s.args.at + 3) (amount_bytes s.args.amount) in
     let h : s.args.at + 3 ≤ length q.put_amount-next.new.file = omega (arith, s.requires.1, e, k) in
     h
 
@@ -49,7 +49,7 @@ returns c =
     let r : q.put_amount-next.result ≡ a.at + 3 + 4 = q.put_amount-next.ensures.0 in (
       omega (arith, r, e),
       p.put_bytes.ensures.1 ∙ ap (λ (m : List ℕ). sets m a.at (flow s)) q.put_amount-next.ensures.1
-          ∙ sets_back (flow s) (amount_bytes a.amount) a.file-1.now a.at ∙ ap (λ (x : List ℕ). sets a.file-1.now a.at x) (sym parts),
+          ∙ sets_back (flow s) (amount_bytes a.amount) a.file.now a.at ∙ ap (λ (x : List ℕ). sets a.file.now a.at x) (sym parts),
     )
 
 -- a cell of a column
@@ -66,7 +66,7 @@ put-amount-requires-2 c κs =
     let k = c.before in
     let s = k.before.before.before in
     let e : length (whole s) ≡ 6 = ap length (column-parts k) in
-    let h : s.args.at + 2 + 4 ≤ length s.args.file-1.now = omega (arith, s.requires.1, e) in
+    let h : s.args.at + 2 + 4 ≤ length s.args.file.now = omega (arith, s.requires.1, e) in
     (s.requires.0.2, h)
 
 put-bytes-requires-2 : tie.Need-put_bytes-requires-2
@@ -75,7 +75,7 @@ put-bytes-requires-2 c κs =
     let k = q.before.before in
     let s = k.before.before.before in
     let e : length (whole s) ≡ 6 = ap length (column-parts k) in
-    let z : length q.put_amount-next-2.new.file ≡ length s.args.file-1.now = ap length q.put_amount-next-2.ensures.1 ∙ length-sets s.args.file-1.now (s.args.at + 2) (amount_bytes s.args.amount) in
+    let z : length q.put_amount-next-2.new.file ≡ length s.args.file.now = ap length q.put_amount-next-2.ensures.1 ∙ length-sets s.args.file.now (s.args.at + 2) (amount_bytes s.args.amount) in
     let h : s.args.at + 2 ≤ length q.put_amount-next-2.new.file = omega (arith, s.requires.1, e, z) in
     h
 
@@ -91,7 +91,7 @@ returns-2 c =
     let r : q.put_amount-next-2.result ≡ a.at + 2 + 4 = q.put_amount-next-2.ensures.0 in (
       omega (arith, r, e),
       p.put_bytes-2.ensures.1 ∙ ap (λ (m : List ℕ). sets m a.at (column k)) q.put_amount-next-2.ensures.1
-          ∙ sets_back (column k) (amount_bytes a.amount) a.file-1.now a.at ∙ ap (λ (x : List ℕ). sets a.file-1.now a.at x) (sym parts),
+          ∙ sets_back (column k) (amount_bytes a.amount) a.file.now a.at ∙ ap (λ (x : List ℕ). sets a.file.now a.at x) (sym parts),
     )
 
 pub put_record_spec : {M : Type 1} → statement M

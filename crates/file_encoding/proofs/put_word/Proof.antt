@@ -27,7 +27,7 @@ entry p = p.before.before.before
 loop-holds : tie.Need-loop-p-init invariant-loop decreases-loop
 loop-holds c =
     let a = c.before.before.args in
-    (omega arith, refl, begin (word_from a.word a.cells.now 0) a.at a.file-1.now)
+    (omega arith, refl, begin (word_from a.word a.cells.now 0) a.at a.file.now)
 
 -- a cell that is not 0, and the cells after it
 parts :
@@ -60,7 +60,7 @@ loop-again c =
       omega arith,
       refl,
       ⊎_elim
-          (λ w. go_on (encode (made a.word i (cell a.cells.now i))) later (parts record { before = c.before; if1 = w.0 }) p.loop-p.invariant.2 (w.7 ∙ w.3.ensures.0, w.6 ∙ w.3.ensures.1))
+          (λ w. go_on (encode (made a.word i (cell a.cells.now i))) later (parts record { before = c.before; if-cells-p-ne0 = w.0 }) p.loop-p.invariant.2 (w.7 ∙ w.3.ensures.0, w.6 ∙ w.3.ensures.1))
           (λ w. go_on [] later (word_zero a.word a.cells.now i lt w.0.left) p.loop-p.invariant.2 (w.2 ∙ sym (add-zero p.loop-p.next), w.1))
           c.if-cells-p-ne0.branch,
     )

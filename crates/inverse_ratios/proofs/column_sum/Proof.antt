@@ -36,7 +36,7 @@ loop-again : tie.Need-loop-i-preserved invariant-loop decreases-loop
 loop-again c =
     let p = c.before.before in
     let l = p.loop-i in
-    (omega arith, ap (λ (t : ℕ). l.sum + t) c.Cell-at.ensures ∙ sum_more (cells p) l.i l.sum l.invariant.1)
+    (omega arith, ap (λ (t : ℕ). l.sum + t) c.cell_at-sum.ensures ∙ sum_more (cells p) l.i l.sum l.invariant.1)
 
 returns : tie.Need-returns invariant-loop decreases-loop
 returns c =
@@ -47,5 +47,5 @@ pub column_sum_spec : {M : Type 1} → statement M
 column_sum_spec =
     tie.close
     (tie.spec
-    invariant-loop decreases-loop (λ c. omega arith) cell-at-requires (λ c. omega (arith, room c, c.Cell-at.ensures)) (λ c. omega arith)
+    invariant-loop decreases-loop (λ c. omega arith) cell-at-requires (λ c. omega (arith, room c, c.cell_at-sum.ensures)) (λ c. omega arith)
     (λ c. omega arith) loop-again returns)

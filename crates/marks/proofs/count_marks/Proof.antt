@@ -34,7 +34,7 @@ unfolding mark_total
 room c =
     let p = head c in
     let m = marks-of p in
-    omega (arith, total_most m, sum_room (counts m) p.loop-word.word word_limit p.loop-word.total p.loop-word.inv.1 (omega (arith, c.before.before.loop-word-test.true, p.before.before.requires)))
+    omega (arith, total_most m, sum_room (counts m) p.loop-word.word word_limit p.loop-word.total p.loop-word.invariant.1 (omega (arith, c.before.before.loop-word-test.true, p.before.before.requires)))
 
 add_total : tie.Need-overflow_add-total invariant-loop decreases-loop
 add_total c = omega (arith, room c, c.ones-total.ensures)
@@ -43,7 +43,7 @@ loop-again : tie.Need-loop-word-preserved invariant-loop decreases-loop
 loop-again c =
     let p = head c in
     let w = p.loop-word.word in
-    (omega (arith, c.before.before.loop-word-test.true), ap (λ (k : ℕ). p.loop-word.total + k) c.ones-total.ensures ∙ sum_more (counts (marks-of p)) w p.loop-word.total p.loop-word.inv.1)
+    (omega (arith, c.before.before.loop-word-test.true), ap (λ (k : ℕ). p.loop-word.total + k) c.ones-total.ensures ∙ sum_more (counts (marks-of p)) w p.loop-word.total p.loop-word.invariant.1)
 
 returns : tie.Need-returns invariant-loop decreases-loop
 unfolding mark_total

@@ -12,7 +12,7 @@ returns c =
     let a = c.before.before.before.before.before.before.before.before.before.args in
     let space = c.before.before.before.before.before.before.put_byte-next in
     let d = decimal a.amount in
-    done (go_on (32 ∷ []) d refl (begin (32 ∷ d) a.at a.out-1.now) space.ensures) c.before.before.put_decimal.ensures
+    done (go_on (32 ∷ []) d refl (begin (32 ∷ d) a.at a.out.now) space.ensures) c.before.before.put_decimal.ensures
 
 pub put_field_spec : {M : Type 1} → statement M
 put_field_spec = tie.close (tie.spec (λ c κs. search rules) (λ c κs. search rules) (λ c. search rules) returns)

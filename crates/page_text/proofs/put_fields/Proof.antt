@@ -23,8 +23,8 @@ parts cells h =
 abbrev whole : tie.Start → List ℕ
 whole s = line (map decimal s.args.cells.now)
 
-start : (s : tie.Start) → Begun (whole s) s.args.at s.args.out-1.now s.args.out-1.now s.args.at (whole s)
-start s = begin (whole s) s.args.at s.args.out-1.now
+start : (s : tie.Start) → Begun (whole s) s.args.at s.args.out.now s.args.out.now s.args.at (whole s)
+start s = begin (whole s) s.args.at s.args.out.now
 
 -- of no cells byte 10 alone is written
 none : (c : tie.Then-cells-eq0) → whole c.before.before.before ≡ 10 ∷ []
@@ -37,7 +37,7 @@ some c = parts c.before.before.before.args.cells.now (omega (arith, c.if-cells-e
 others :
     (c : tie.After-put_decimal-next) →
     let s = c.before.before.before.before.before.before in
-    Begun (whole s) s.args.at s.args.out-1.now c.put_decimal-next.new.out c.put_decimal-next.result (later s.args.cells.now)
+    Begun (whole s) s.args.at s.args.out.now c.put_decimal-next.new.out c.put_decimal-next.result (later s.args.cells.now)
 others c =
     let s = c.before.before.before.before.before.before in
     go_on (decimal (get_or s.args.cells.now 0 0)) (later s.args.cells.now) (some c.before.before.before) (start s) c.put_decimal-next.ensures

@@ -31,7 +31,7 @@ split cells i h = ap (λ (x : List ℕ). rest (map decimal x)) (drop-first cells
 ended :
     (c : tie.After-loop-i invariant-loop decreases-loop) →
     let a = (entry c.before).args in
-    Begun (from a.cells.now 0) a.at a.out-1.now c.before.loop-i.out c.before.loop-i.next (10 ∷ [])
+    Begun (from a.cells.now 0) a.at a.out.now c.before.loop-i.out c.before.loop-i.next (10 ∷ [])
 ended c =
     let l = c.before.loop-i in
     let e = drop_of_length-le (entry c.before).args.cells.now {i = l.i} (omega arith) in
@@ -57,7 +57,7 @@ loop-again c =
 loop-holds : tie.Need-loop-i-init invariant-loop decreases-loop
 loop-holds c =
     let a = c.before.before.args in
-    (omega arith, refl, begin (from a.cells.now 0) a.at a.out-1.now)
+    (omega arith, refl, begin (from a.cells.now 0) a.at a.out.now)
 
 put-byte-requires : tie.Need-put_byte-requires invariant-loop decreases-loop
 put-byte-requires c κs = room (entry c.before.before).requires (ended c.before)

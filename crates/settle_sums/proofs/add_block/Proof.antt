@@ -26,7 +26,7 @@ abbrev terms : tie.At-loop-j invariant-loop decreases-loop → ℕ → ℕ → �
 terms p = let a = (entry p).args in product (at a.n a.d.now) (cell a.increments.now)
 
 abbrev partly : tie.At-loop-j invariant-loop decreases-loop → ℕ → ℕ → ℕ
-partly p j c = cell (entry p).args.sums-1.now c + sum j (terms p c)
+partly p j c = cell (entry p).args.sums.now c + sum j (terms p c)
 
 -- what a turn adds to the sum of row c
 abbrev more : tie.After-narrowed-increment invariant-loop decreases-loop → ℕ → ℕ
@@ -79,7 +79,7 @@ loop-again c =
       omega arith,
       w.auto.sums ∙ l.invariant.1,
       written_again w.new.sums l.sums a.i 4
-          {f = partly p l.j} {g = λ k. cell l.sums k + more q k} {e = partly p (l.j + 1)} a.sums-1.now
+          {f = partly p l.j} {g = λ k. cell l.sums k + more q k} {e = partly p (l.j + 1)} a.sums.now
           (λ k e. omega (arith, e, term q k, sum_more (terms p k) l.j (sum l.j (terms p k)) refl)) l.invariant.2 w.ensures,
     )
 
@@ -89,7 +89,7 @@ returns c =
     let l = p.loop-j in
     let a = (entry p).args in
     let all : l.j ≡ a.n = omega (arith, l.invariant.0, c.loop-j-test.false) in
-    subst (λ (j : ℕ). Written l.sums a.i 4 (partly p j) a.sums-1.now) all l.invariant.2
+    subst (λ (j : ℕ). Written l.sums a.i 4 (partly p j) a.sums.now) all l.invariant.2
 
 pub add_block_spec : {M : Type 1} → statement M
 add_block_spec =

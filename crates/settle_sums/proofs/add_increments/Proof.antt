@@ -25,11 +25,11 @@ entry p = p.before.before.before.before
 loop-holds : tie.Need-loop-i-init invariant-loop decreases-loop
 loop-holds c =
     let s = c.before.before.before in
-    (omega arith, refl, over_none s.args.sums-1.now _)
+    (omega arith, refl, over_none s.args.sums.now _)
 
 -- a sum that is still as it was is raised as it would have been
 still : (p : tie.At-loop-i invariant-loop decreases-loop) (k : ℕ) → let a = (entry p).args in
-    cell p.loop-i.sums k ≡ cell a.sums-1.now k → raised a.n a.d.now a.increments.now p.loop-i.sums k ≡ raised a.n a.d.now a.increments.now a.sums-1.now k
+    cell p.loop-i.sums k ≡ cell a.sums.now k → raised a.n a.d.now a.increments.now p.loop-i.sums k ≡ raised a.n a.d.now a.increments.now a.sums.now k
 still p k e = omega (arith, e)
 
 -- so it fits
@@ -46,8 +46,8 @@ next :
     (p : tie.At-loop-i invariant-loop decreases-loop) (l : List ℕ) (k : ℕ) →
     let a = (entry p).args in
     Written l p.loop-i.i k (raised a.n a.d.now a.increments.now p.loop-i.sums) p.loop-i.sums
-    → Over l (p.loop-i.i + k) (raised a.n a.d.now a.increments.now a.sums-1.now) a.sums-1.now
-next p l k w = let a = (entry p).args in written_on l p.loop-i.sums p.loop-i.i k a.sums-1.now (still p) p.loop-i.invariant.2 w
+    → Over l (p.loop-i.i + k) (raised a.n a.d.now a.increments.now a.sums.now) a.sums.now
+next p l k w = let a = (entry p).args in written_on l p.loop-i.sums p.loop-i.i k a.sums.now (still p) p.loop-i.invariant.2 w
 
 add-block-requires : tie.Need-add_block-requires invariant-loop decreases-loop
 add-block-requires c κs =

@@ -33,10 +33,10 @@ returns c =
 
 -- six lengths of slices fit a word, and seven
 add-from-adjustment : tie.Need-overflow_add-from_adjustment
-add-from-adjustment c = omega (arith, (entry c).well-formed)
+add-from-adjustment c = omega (arith, (entry c).well_formed)
 
 next-within-requires-6 : tie.Need-next_within-requires
-next-within-requires-6 c κs = omega (arith, (entry c).well-formed)
+next-within-requires-6 c κs = omega (arith, (entry c).well_formed)
 
 pub check_amounts_spec : {M : Type 1} → statement M
 check_amounts_spec =
