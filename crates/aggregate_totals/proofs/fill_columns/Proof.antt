@@ -22,46 +22,46 @@ record Filled (n : ℕ) (x groups : List ℕ) (g : ℕ) (purchases column merged
   cells : length merged ≡ g * g
   flows : (k j : ℕ) → k < g → j < l → at g merged k j ≡ merged_flow (table_of n x []) groups k j
 
-abbrev invariant-loop : tie.invariant-loop
+abbrev invariant-loop : tie.invariant-loop-l
 invariant-loop n x groups purchases₀ column₀ merged₀ l₀ end purchases column merged l = Filled n x groups (length groups) purchases column merged l
 
-abbrev decreases-loop : tie.decreases-loop
+abbrev decreases-loop : tie.decreases-loop-l
 decreases-loop n x groups purchases₀ column₀ merged₀ l₀ end purchases column merged l = length groups - l
 
-abbrev entry : tie.At-loop invariant-loop decreases-loop → tie.Start invariant-loop decreases-loop
+abbrev entry : tie.At-loop-l invariant-loop decreases-loop → tie.Start invariant-loop decreases-loop
 entry p = p.before.before.before.before.before.before
 
 -- the place at which the group's purchases are known, from where they were merged
-abbrev bought : tie.After-fill-column invariant-loop decreases-loop → tie.After-fill-purchases invariant-loop decreases-loop
-bought q = q.before.before.before.before.before
+abbrev bought : tie.After-fill_column invariant-loop decreases-loop → tie.After-fill_purchases invariant-loop decreases-loop
+bought q = q.before.before.before.before
 
-abbrev head : tie.After-fill-purchases invariant-loop decreases-loop → tie.At-loop invariant-loop decreases-loop
+abbrev head : tie.After-fill_purchases invariant-loop decreases-loop → tie.At-loop-l invariant-loop decreases-loop
 head b = b.before.before.before.before
 
-loop-holds : tie.Need-loop-init invariant-loop decreases-loop
+loop-holds : tie.Need-loop-l-init invariant-loop decreases-loop
 loop-holds c =
     let z = c.before.before.before.before.before.requires.0 in
     record { within = omega arith; bought = z.4; added = z.5; cells = z.6; flows = λ k j h l. absurd (not-suc-le-zero l) }
 
-loop-again : tie.Need-loop-preserved invariant-loop decreases-loop
+loop-again : tie.Need-loop-l-preserved invariant-loop decreases-loop
 loop-again c =
     let r = c.before.before in
-    let q = r.before.before.before.before.before in
+    let q = r.before.before.before.before in
     let b = bought q in
     let p = head b in
     let a = (entry p).args in
     let g = length a.groups.now in
-    let l = p.loop in
+    let l = p.loop-l in
     let flows = merged_flow (table_of a.n a.x.now []) a.groups.now in
     record {
-      within = omega (arith, b.before.before.before.loop-test.taken);
-      bought = b.fill-purchases.kept.1.1.1.0 ∙ l.inv.bought;
-      added = q.fill-column.auto.1.1.1.0 ∙ l.inv.added;
-      cells = r.put_column.auto.1.1.1.0 ∙ l.inv.cells;
+      within = omega (arith, b.before.before.before.loop-l-test.true);
+      bought = b.fill_purchases.auto.purchases ∙ l.invariant.bought;
+      added = q.fill_column.auto.merged ∙ l.invariant.added;
+      cells = r.put_column.auto.sheet ∙ l.invariant.cells;
       flows =
-          λ k j h. below_more (λ j. at g r.put_column.new.1.1.1.0 k j ≡ flows k j) l.l
-          (λ j lt. r.put_column.ensures.1 k j lt ∙ l.inv.flows k j h lt)
-          (r.put_column.ensures.0 k h ∙ merged_purchases a.n (cell a.groups.now l.l) a.x.now b.fill-purchases.ensures a.groups.now q.fill-column.ensures k h) j;
+          λ k j h. below_more (λ j. at g r.put_column.new.sheet k j ≡ flows k j) l.l
+          (λ j lt. r.put_column.ensures.1 k j lt ∙ l.invariant.flows k j h lt)
+          (r.put_column.ensures.0 k h ∙ merged_purchases a.n (cell a.groups.now l.l) a.x.now b.fill_purchases.ensures a.groups.now q.fill_column.ensures k h) j;
     }
 
 returns : tie.Need-returns invariant-loop decreases-loop
@@ -69,30 +69,30 @@ returns c =
     let p = c.before in
     let s = entry p in
     let g = length s.args.groups.now in
-    matrix_made g (merged_flow (table_of s.args.n s.args.x.now []) s.args.groups.now) p.loop.merged s.pre.0.2 p.loop.invariant.cells
-    (λ k j h l. p.loop.invariant.flows k j h (omega (arith, c.loop-test.false)))
+    matrix_made g (merged_flow (table_of s.args.n s.args.x.now []) s.args.groups.now) p.loop-l.merged s.requires.0.2 p.loop-l.invariant.cells
+    (λ k j h l. p.loop-l.invariant.flows k j h (omega (arith, c.loop-l-test.false)))
 
-fill-purchases-requires : tie.Need-fill-purchases-requires invariant-loop decreases-loop
+fill-purchases-requires : tie.Need-fill_purchases-requires invariant-loop decreases-loop
 fill-purchases-requires c κs =
     let p = c.before.before.before in
     let s = entry p in
-    ((s.pre.0.0, s.pre.0.1, p.loop.invariant.bought), s.pre.1)
+    ((s.requires.0.0, s.requires.0.1, p.loop-l.invariant.bought), s.requires.1)
 
-fill-column-requires : tie.Need-fill-column-requires invariant-loop decreases-loop
+fill-column-requires : tie.Need-fill_column-requires invariant-loop decreases-loop
 fill-column-requires c κs =
-    let b = c.before.before.before.before in
+    let b = c.before.before.before in
     let p = head b in
     let s = entry p in
     let a = s.args in (
-      (s.pre.0.0, b.fill-purchases.auto.1.1.1.0 ∙ p.loop.inv.bought, p.loop.inv.added),
-      purchase_small a.n (cell a.groups.now p.loop.l) a.x.now b.fill-purchases.ensures s.pre.0.0 s.pre.1,
+      (s.requires.0.0, b.fill_purchases.auto.purchases ∙ p.loop-l.invariant.bought, p.loop-l.invariant.added),
+      purchase_small a.n (cell a.groups.now p.loop-l.l) a.x.now b.fill_purchases.ensures s.requires.0.0 s.requires.1,
     )
 
-put-column-requires : tie.Need-put-column-requires invariant-loop decreases-loop
+put-column-requires : tie.Need-put_column-requires invariant-loop decreases-loop
 put-column-requires c κs =
-    let q = c.before.before.before.before in
+    let q = c.before.before.before in
     let p = head (bought q) in
-    (p.loop.inv.cells, q.fill-column.auto.1.1.1.0 ∙ p.loop.inv.added, (bought q).before.before.before.loop-test.true)
+    (p.loop-l.invariant.cells, q.fill_column.auto.merged ∙ p.loop-l.invariant.added, (bought q).before.before.before.loop-l-test.true)
 
 pub fill_columns_spec : {M : Type 1} → statement M
 fill_columns_spec =

@@ -21,7 +21,7 @@ part k h = length-take-le k zeros h
 few : (s : tie.Start) → length s.args.groups.now ≤ sector_limit
 few s = le_trans s.requires.0.3 s.requires.0.0
 
-fill-columns-requires : tie.Need-fill-columns-requires
+fill-columns-requires : tie.Need-fill_columns-requires
 fill-columns-requires c κs =
     let s = c.before.before.before.before.before.before in
     let z = s.requires.0 in

@@ -18,41 +18,41 @@ use Rattle.aggregate_totals.proofs.totals_within.Tie as tie
 abbrev test : ℕ → List ℕ → ℕ → Bool
 test n column group = leb (group_total n group (cell column)) amount_limit
 
-abbrev invariant-loop : tie.invariant-loop
+abbrev invariant-loop : tie.invariant-loop-k
 invariant-loop n groups column k₀ end k = (k ≤ length groups) × All (λ i. test n column (cell groups i)) k
 
-abbrev decreases-loop : tie.decreases-loop
+abbrev decreases-loop : tie.decreases-loop-k
 decreases-loop n groups column k₀ end k = length groups - k
 
-abbrev entry : tie.At-loop invariant-loop decreases-loop → tie.Start invariant-loop decreases-loop
+abbrev entry : tie.At-loop-k invariant-loop decreases-loop → tie.Start invariant-loop decreases-loop
 entry p = p.before.before.before
 
-returns : tie.Need-returns invariant-loop decreases-loop
+returns : tie.Need-returns-then-group_total-gt-AMOUNT_LIMIT invariant-loop decreases-loop
 returns c =
     let q = c.before in
     let p = q.before.before.before in
     let a = (entry p).args in
-    sym (all_failed (test a.n a.column.now) a.groups.now p.loop.k q.before.before.loop-test.true
-    (lt-leb _ amount_limit (subst (λ (k : ℕ). amount_limit < k) q.group-total.ensures c.if1.true)))
+    sym (all_failed (test a.n a.column.now) a.groups.now p.loop-k.k q.before.before.loop-k-test.true
+    (lt-leb _ amount_limit (subst (λ (k : ℕ). amount_limit < k) q.group_total.ensures c.if-group_total-gt-AMOUNT_LIMIT.true)))
 
-loop-again : tie.Need-loop-preserved invariant-loop decreases-loop
+loop-again : tie.Need-loop-k-preserved invariant-loop decreases-loop
 loop-again c =
     let q = c.before in
     let p = q.before.before.before in
     let a = (entry p).args in (
       omega arith,
-      all_more (λ i. test a.n a.column.now (cell a.groups.now i)) p.loop.k p.loop.invariant.1
-          (le-leb _ amount_limit (subst (λ (k : ℕ). k ≤ amount_limit) q.group-total.ensures c.if1.false)),
+      all_more (λ i. test a.n a.column.now (cell a.groups.now i)) p.loop-k.k p.loop-k.invariant.1
+          (le-leb _ amount_limit (subst (λ (k : ℕ). k ≤ amount_limit) q.group_total.ensures c.if-group_total-gt-AMOUNT_LIMIT.false)),
     )
 
-returns-2 : tie.Need-returns-2 invariant-loop decreases-loop
+returns-2 : tie.Need-returns invariant-loop decreases-loop
 returns-2 c =
     let p = c.before in
     let a = (entry p).args in
-    sym (all_passed (test a.n a.column.now) a.groups.now (λ k h. p.loop.invariant.1 k (omega (arith, c.loop-test.false))))
+    sym (all_passed (test a.n a.column.now) a.groups.now (λ k h. p.loop-k.invariant.1 k (omega (arith, c.loop-k-test.false))))
 
-group-total-requires : tie.Need-group-total-requires invariant-loop decreases-loop
-group-total-requires c κs = let s = entry c.before.before in ((s.pre.0.0, s.pre.0.1), s.pre.1)
+group-total-requires : tie.Need-group_total-requires invariant-loop decreases-loop
+group-total-requires c κs = let s = entry c.before.before in ((s.requires.0.0, s.requires.0.1), s.requires.1)
 
 pub totals_within_spec : {M : Type 1} → statement M
 totals_within_spec =

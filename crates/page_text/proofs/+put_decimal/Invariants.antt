@@ -1,0 +1,5 @@
+-- It calls itself on a smaller amount.
+use Rattle.page_text.proofs.+put_decimal.Given as goal
+
+abbrev pub decreases-put_decimal : goal.decreases-put_decimal
+decreases-put_decimal l = l.amount
