@@ -55,35 +55,35 @@ pub const PRICE_BUDGET: u32 = 1400;
 pub const PAGE: usize = 39 + SECTORS * 70 + 12;
 
 // A call without a count: accepted, or the number and the place of the first check that fails.
-#[derive(Drop)]
+#[derive(Clone, Copy)]
 pub enum Answer {
     Accepted,
     Refused { number: u8, place: usize },
 }
 
 // A call that works in rounds: how many it took, or the number and the place of the first check that fails.
-#[derive(Drop)]
+#[derive(Clone, Copy)]
 pub enum Outcome {
     Settled { rounds: u32 },
     Refused { number: u8, place: usize },
 }
 
 // The reader of a table file: n and how many cells were named, or the number and the place of the first check that fails.
-#[derive(Drop)]
+#[derive(Clone, Copy)]
 pub enum TableRead {
     Read { sectors: usize, named: usize },
     Refused { number: u8, place: usize },
 }
 
 // The writer of a table file: how many bytes the file has, or the number and the place of the first check that fails.
-#[derive(Drop)]
+#[derive(Clone, Copy)]
 pub enum TableWritten {
     Written { length: usize },
     Refused { number: u8, place: usize },
 }
 
 // The call that writes a page: how many bytes the page has, or the number and the place of the first check that fails.
-#[derive(Drop)]
+#[derive(Clone, Copy)]
 pub enum PageWritten {
     Written { length: usize },
     Refused { number: u8, place: usize },

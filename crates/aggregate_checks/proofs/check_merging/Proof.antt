@@ -20,81 +20,81 @@ use Rattle.theory_groups.proofs.Limits.{limits_same}
 use Rattle.aggregate_checks.proofs.check_merging.Statement.{statement}
 use Rattle.aggregate_checks.proofs.check_merging.Tie as tie
 
-abbrev entry : tie.After-check-lengths → tie.Start
+abbrev entry : tie.After-check_lengths-sizes → tie.Start
 entry q = q.before.before.before.before.before.before.before.before.before.before.before.before.before
 
-abbrev table : tie.After-check-lengths → Table
-table q = let a = (entry q).args in table_by a.n a.x.now a.final-demand.now a.exports.now a.imports.now a.value-added.now a.production.now a.adjustment.now
+abbrev table : tie.After-check_lengths-sizes → Table
+table q = let a = (entry q).args in table_by a.n a.x.now a.final_demand.now a.exports.now a.imports.now a.value_added.now a.production.now a.adjustment.now
 
-abbrev groups : tie.After-check-lengths → List ℕ
+abbrev groups : tie.After-check_lengths-sizes → List ℕ
 groups q = (entry q).args.groups.now
 
 -- questions 1 and 2; 3, 16, 4, 5 and 6; 18 and 19
-abbrev sizes : tie.After-check-lengths → List Check
+abbrev sizes : tie.After-check_lengths-sizes → List Check
 sizes q =
     let a = (entry q).args in
     let t = table q in
-    size a.n ∷ lengths a.n (length a.x.now ∷ []) (length a.final-demand.now ∷ length a.exports.now ∷ length a.imports.now ∷ length a.value-added.now ∷ length a.production.now ∷ length a.adjustment.now ∷ [])
+    size a.n ∷ lengths a.n (length a.x.now ∷ []) (length a.final_demand.now ∷ length a.exports.now ∷ length a.imports.now ∷ length a.value_added.now ∷ length a.production.now ∷ length a.adjustment.now ∷ [])
     ∷ group_lengths t (groups q) a.merged.now a.lent.now
 
-abbrev contents : tie.After-check-lengths → List Check
+abbrev contents : tie.After-check_lengths-sizes → List Check
 contents q = table_amounts (table q) ++ balance_checks (table q)
 
-abbrev last : tie.After-check-lengths → List Check
+abbrev last : tie.After-check_lengths-sizes → List Check
 last q = partitioned (table q) (groups q) ∷ merged_within (table q) (groups q) ∷ []
 
 -- past questions 1 and 2, and past those up to 6: what they say
-passed : (p : tie.After-enum-told) → AllPass (sizes p.before.before)
-passed p = let q = p.before.before in answered_pass (sizes q) q.check-lengths.ensures p.enum_told.given.1
+passed : (p : tie.In-Accepted) → AllPass (sizes p.before)
+passed p = let q = p.before in answered_pass (sizes q) q.check_lengths-sizes.ensures p.in-Accepted.is
 
-sized : (p : tie.After-enum-told) → TableSizes (table p.before.before)
-sized p = let z = passed p in (table_sizes (table p.before.before) [] [] z.0 z.1.0).0
+sized : (p : tie.In-Accepted) → TableSizes (table p.before)
+sized p = let z = passed p in (table_sizes (table p.before) [] [] z.0 z.1.0).0
 
-abbrev told : tie.After-enum-told3 → tie.After-enum-told
-told r = r.before.before.before
+abbrev told : tie.In-Accepted-contents → tie.In-Accepted
+told r = r.before.before
 
-passed-2 : (r : tie.After-enum-told3) → let t = table (told r).before.before in AllPass (table_amounts t) × AllPass (balance_checks t)
+passed-2 : (r : tie.In-Accepted-contents) → let t = table (told r).before.before in AllPass (table_amounts t) × AllPass (balance_checks t)
 passed-2 r =
     let q = (told r).before.before in
-    all_pass_parts (table_amounts (table q)) (balance_checks (table q)) (answered_pass (contents q) r.before.before.check-contents.ensures r.enum-told3.given.1)
+    all_pass_parts (table_amounts (table q)) (balance_checks (table q)) (answered_pass (contents q) r.check_contents-contents.ensures r.in-Accepted-contents.is)
 
-returns : tie.Need-returns
+returns : tie.Need-returns-in_default
 unfolding aggregate_report
 returns c =
-    let q = c.before.before in
-    answered_end (sizes q) q.check-lengths.ensures (contents q ++ last q) c.enum-told2.given.1
+    let q = c.before in
+    answered_end (sizes q) q.check_lengths-sizes.ensures (contents q ++ last q) c.in_default.is
 
-returns-2 : tie.Need-returns-2
+returns-2 : tie.Need-returns-in_default-contents
 unfolding aggregate_report
 returns-2 c =
-    let p = c.before.before.before in
-    let q = p.before.before in
-    answered_end (contents q) c.before.before.check-contents.ensures (last q) c.enum-told4.given.1
-    ∙ answered_on (sizes q) q.check-lengths.ensures (contents q ++ last q) [] p.enum_told.given.1
+    let p = c.before.before in
+    let q = p.before in
+    answered_end (contents q) c.check_contents-contents.ensures (last q) c.in_default-contents.is
+    ∙ answered_on (sizes q) q.check_lengths-sizes.ensures (contents q ++ last q) [] p.in-Accepted.is
 
 -- question 19 is asked of three columns
-returns-3 : tie.Need-returns-3
+returns-3 : tie.Need-returns
 unfolding aggregate_report
 returns-3 c =
     let r = c.before in
     let p = told r in
-    let q = p.before.before in
+    let q = p.before in
     let a = (entry q).args in
     let t = table q in
     let g = groups q in
-    let three = deciding_within a.n g a.final-demand.now a.imports.now a.production.now in
+    let three = deciding_within a.n g a.final_demand.now a.imports.now a.production.now in
     let some = (from_one (length g) a.n ((passed p).1.1.0 0 (le_refl 1))).0 in
-    c.check-groups.ensures
+    c.check_groups.ensures
     ∙ asked_both ◌≡◌ (partitioned t g) (single 19 three ∷ []) (merged_within t g ∷ []) [] [] (λ _. refl)
-    (λ once. ap (λ (b : Bool). verdict (single 19 b ∷ []) []) (limits_same a.n a.x.now a.final-demand.now a.exports.now a.imports.now a.value-added.now a.production.now a.adjustment.now g (partition t g once).once some (balanced t (passed-2 r).1)))
-    ∙ answered_on (contents q) r.before.before.check-contents.ensures (last q) [] r.enum-told3.given.1
-    ∙ answered_on (sizes q) q.check-lengths.ensures (contents q ++ last q) [] p.enum_told.given.1
+    (λ once. ap (λ (b : Bool). verdict (single 19 b ∷ []) []) (limits_same a.n a.x.now a.final_demand.now a.exports.now a.imports.now a.value_added.now a.production.now a.adjustment.now g (partition t g once).once some (balanced t (passed-2 r).1)))
+    ∙ answered_on (contents q) r.check_contents-contents.ensures (last q) [] r.in-Accepted-contents.is
+    ∙ answered_on (sizes q) q.check_lengths-sizes.ensures (contents q ++ last q) [] p.in-Accepted.is
 
-check-groups-requires : tie.Need-check-groups-requires
+check-groups-requires : tie.Need-check_groups-requires
 check-groups-requires c κs =
     let z = sized (told c) in
     let m = table_amounts_lem (table (told c).before.before) (passed-2 c).0 in
-    ((z.few, z.columns 0 (lit< tt), z.columns 2 (lit< tt), z.columns 4 (lit< tt)), λ k. (m.columns 0 k, m.columns 2 k, m.columns 4 k))
+    ((z.few, z.columns-1 0 (lit< tt), z.columns-1 2 (lit< tt), z.columns-1 4 (lit< tt)), λ k. (m.columns-1 0 k, m.columns-1 2 k, m.columns-1 4 k))
 
 pub check_merging_spec : {M : Type 1} → statement M
 check_merging_spec =

@@ -14,11 +14,11 @@ returns c =
     let q3 = c.before in
     let q2 = q3.before in
     let q1 = q2.before in
-    let a = q1.before.before.before.before.before.args in
-    let later = map (bounded 3 0 amount_limit) (a.final-demand.now ∷ a.exports.now ∷ a.adjustment.now ∷ []) in
+    let a = q1.args in
+    let later = map (bounded 3 0 amount_limit) (a.final_demand.now ∷ a.exports.now ∷ a.adjustment.now ∷ []) in
     let qs = bounded 3 0 one a.m.now ∷ counted_on (length a.m.now) later in
-    c.next-within3.ensures (take 3 qs)
-    (q3.next-within2.ensures (take 2 qs) (q2.next-within.ensures (take 1 qs) q1.cells-within.ensures))
+    c.next_within.ensures (take 3 qs)
+    (q3.next_within-abroad.ensures (take 2 qs) (q2.next_within-demands.ensures (take 1 qs) q1.cells_within-shares.ensures))
     ∙ ap (λ (ps : List Check). verdict ps []) (counted_first one a.m.now later)
 
 pub check_amounts_spec : {M : Type 1} → statement M

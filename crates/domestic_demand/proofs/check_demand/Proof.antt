@@ -10,62 +10,62 @@ use Rattle.theory_tables.proofs.Demanded.{demand_sizes, demand_amounts_lem}
 use Rattle.domestic_demand.proofs.check_demand.Statement.{statement}
 use Rattle.domestic_demand.proofs.check_demand.Tie as tie
 
-abbrev entry : tie.After-check-sizes → tie.Start
+abbrev entry : tie.After-check_sizes-sizes → tie.Start
 entry q = q.before.before.before.before.before.before.before
 
 -- questions 1 and 2, question 3, and question 16
-abbrev sizes : tie.After-check-sizes → List Check
+abbrev sizes : tie.After-check_sizes-sizes → List Check
 sizes q =
     let a = (entry q).args in
-    let columns = length a.m.now ∷ length a.final-demand.now ∷ length a.exports.now ∷ length a.adjustment.now ∷ a.out-len ∷ [] in
+    let columns = length a.m.now ∷ length a.final_demand.now ∷ length a.exports.now ∷ length a.adjustment.now ∷ a.out_len ∷ [] in
     size a.n ∷ lengths a.n [] columns ∷ []
 
-abbrev amounts : tie.After-check-sizes → List Check
-amounts q = let a = (entry q).args in demand_amounts a.m.now a.final-demand.now a.exports.now a.adjustment.now
+abbrev amounts : tie.After-check_sizes-sizes → List Check
+amounts q = let a = (entry q).args in demand_amounts a.m.now a.final_demand.now a.exports.now a.adjustment.now
 
-abbrev last : tie.After-check-sizes → List Check
+abbrev last : tie.After-check_sizes-sizes → List Check
 last q = let a = (entry q).args in exports_within a.n a.exports.now a.adjustment.now ∷ []
 
 -- what was answered to question 3 after 1 and 2
-said : (r : tie.After-check-amounts) → let q = r.before.before.before in report r.check-amounts.result ≡ verdict (sizes q ++ amounts q) []
+said : (r : tie.After-check_amounts-amounts) → let q = r.before.before in report r.check_amounts-amounts.result ≡ verdict (sizes q ++ amounts q) []
 said r =
     let p = r.before in
-    let q = p.before.before in
-    r.check-amounts.ensures ∙ answered_on (sizes q) q.check-sizes.ensures (amounts q) [] p.enum_told.given.1
+    let q = p.before in
+    r.check_amounts-amounts.ensures ∙ answered_on (sizes q) q.check_sizes-sizes.ensures (amounts q) [] p.in-Accepted.is
 
-returns : tie.Need-returns
+returns : tie.Need-returns-in_default
 unfolding domestic_demand_report
 returns c =
-    let q = c.before.before in
-    answered_end (sizes q) q.check-sizes.ensures (amounts q ++ last q) c.enum-told2.given.1
+    let q = c.before in
+    answered_end (sizes q) q.check_sizes-sizes.ensures (amounts q ++ last q) c.in_default.is
 
-returns-2 : tie.Need-returns-2
+returns-2 : tie.Need-returns-in_default-amounts
 unfolding domestic_demand_report
 returns-2 c =
-    let r = c.before.before in
-    let q = r.before.before.before in
-    answered_end (sizes q ++ amounts q) (said r) (last q) c.enum-told4.given.1
+    let r = c.before in
+    let q = r.before.before in
+    answered_end (sizes q ++ amounts q) (said r) (last q) c.in_default-amounts.is
 
 -- what questions 1, 2 and 3 say
-exports-within-requires : tie.Need-exports-within-requires
+exports-within-requires : tie.Need-exports_within-requires
 exports-within-requires c κs =
-    let r = c.before.before in
+    let r = c.before in
     let p = r.before in
-    let q = p.before.before in
+    let q = p.before in
     let a = (entry q).args in
-    let asked = answered_pass (sizes q) q.check-sizes.ensures p.enum_told.given.1 in
-    let s = demand_sizes a.n a.m.now a.final-demand.now a.exports.now a.adjustment.now (a.out-len ∷ []) asked.0 asked.1.0 in
+    let asked = answered_pass (sizes q) q.check_sizes-sizes.ensures p.in-Accepted.is in
+    let s = demand_sizes a.n a.m.now a.final_demand.now a.exports.now a.adjustment.now (a.out_len ∷ []) asked.0 asked.1.0 in
     let b =
-    demand_amounts_lem a.n a.m.now a.final-demand.now a.exports.now a.adjustment.now (a.out-len ∷ [])
-    (answered_pass (amounts q) r.check-amounts.ensures c.enum-told3.given.1) in
+    demand_amounts_lem a.n a.m.now a.final_demand.now a.exports.now a.adjustment.now (a.out_len ∷ [])
+    (answered_pass (amounts q) r.check_amounts-amounts.ensures c.in-Accepted-amounts.is) in
     ((s.exports, s.adjustment), λ k. ((b.amounts k).1, (b.amounts k).2))
 
-returns-3 : tie.Need-returns-3
+returns-3 : tie.Need-returns
 unfolding domestic_demand_report
 returns-3 c =
-    let r = c.before.before.before in
-    let q = r.before.before.before in
-    c.exports-within.ensures ∙ answered_on (sizes q ++ amounts q) (said r) (last q) [] c.before.enum-told3.given.1
+    let r = c.before.before in
+    let q = r.before.before in
+    c.exports_within.ensures ∙ answered_on (sizes q ++ amounts q) (said r) (last q) [] c.in-Accepted-amounts.is
 
 pub check_demand_spec : {M : Type 1} → statement M
 check_demand_spec =

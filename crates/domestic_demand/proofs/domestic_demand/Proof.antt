@@ -9,31 +9,31 @@ use Rattle.theory_tables.proofs.Demanded.{accepted_demand, demanded}
 use Rattle.domestic_demand.proofs.domestic_demand.Statement.{statement}
 use Rattle.domestic_demand.proofs.domestic_demand.Tie as tie
 
-abbrev entry : tie.After-check-demand → tie.Start
+abbrev entry : tie.After-check_demand-checked → tie.Start
 entry q = q.before.before.before.before.before.before
 
 -- an accepted call's report
 accepted :
-    (p : tie.After-enum-told) →
-    let a = (entry p.before.before).args in
-    accepts [] ≡ domestic_demand_report a.n a.m.now a.final-demand.now a.exports.now a.adjustment.now (length a.out.now ∷ [])
-accepted p = sym (ap report p.enum_told.given.1) ∙ p.before.before.check-demand.ensures
+    (p : tie.In-Accepted) →
+    let a = (entry p.before).args in
+    accepts [] ≡ domestic_demand_report a.n a.m.now a.final_demand.now a.exports.now a.adjustment.now (length a.out.now ∷ [])
+accepted p = sym (ap report p.in-Accepted.is) ∙ p.check_demand-checked.ensures
 
-returns : tie.Need-returns
+returns : tie.Need-returns-in-Refused
 returns c =
     let k = c.before.before.before.before.before in
-    demanded (sym (ap report k.checked.given.1) ∙ k.before.before.check-demand.ensures) c.before.before.fill-zero.ensures
+    demanded (sym (ap report k.in-Refused.is) ∙ k.check_demand-checked.ensures) c.fill_zero.ensures
 
-fill-demand-requires : tie.Need-fill-demand-requires
+fill-demand-requires : tie.Need-fill_demand-requires
 fill-demand-requires c κs =
     let p = c.before in
-    let a = (entry p.before.before).args in
-    let g = accepted_demand a.n a.m.now a.final-demand.now a.exports.now a.adjustment.now (length a.out.now ∷ []) (accepted p) refl in
+    let a = (entry p.before).args in
+    let g = accepted_demand a.n a.m.now a.final_demand.now a.exports.now a.adjustment.now (length a.out.now ∷ []) (accepted p) refl in
     let s = g.sizes in
     ((s.shares, s.demand, s.exports, s.adjustment, s.slices.0), (λ k h. g.small.shares k, g.small.amounts))
 
-returns-2 : tie.Need-returns-2
-returns-2 c = demanded (accepted c.before.before.before.before) c.before.before.fill-demand.ensures
+returns-2 : tie.Need-returns-in-Accepted
+returns-2 c = demanded (accepted c.before.before.before.before) c.fill_demand.ensures
 
 pub domestic_demand_spec : {M : Type 1} → statement M
 domestic_demand_spec =

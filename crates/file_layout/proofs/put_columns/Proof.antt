@@ -16,7 +16,7 @@ use Rattle.file_layout.proofs.put_columns.Statement.{statement}
 use Rattle.file_layout.proofs.put_columns.Tie as tie
 
 abbrev columns : tie.Start → List (List ℕ)
-columns s = let a = s.args in a.final-demand.now ∷ a.exports.now ∷ a.imports.now ∷ a.value-added.now ∷ a.production.now ∷ a.rises.now ∷ a.adjustment.now ∷ []
+columns s = let a = s.args in a.final_demand.now ∷ a.exports.now ∷ a.imports.now ∷ a.value_added.now ∷ a.production.now ∷ a.rises.now ∷ a.adjustment.now ∷ []
 
 -- the first k of them are written
 abbrev Done : tie.Start → ℕ → List ℕ → ℕ → Type 0
@@ -29,50 +29,50 @@ next : (s : tie.Start) (k : ℕ) {m : List ℕ} {j : ℕ} → k < length column_
 next s k h w = let p = s.requires.0 k h in ((omega arith, p.0), (p.1, words_room w h refl s.requires.1))
 
 -- after each call
-abbrev start : tie.After-put-word-arg → tie.Start
+abbrev start : tie.After-put_word-arg-1 → tie.Start
 start c = c.before.before.before.before.before.before.before.before.before
 
-abbrev start1 : tie.After-put-word → tie.Start
+abbrev start1 : tie.After-put_word-first → tie.Start
 start1 c = start c.before
 
-abbrev start2 : tie.After-put-word2 → tie.Start
+abbrev start2 : tie.After-put_word-second → tie.Start
 start2 c = start1 c.before.before.before.before
 
-abbrev start3 : tie.After-put-word3 → tie.Start
+abbrev start3 : tie.After-put_word-third → tie.Start
 start3 c = start2 c.before.before.before.before
 
-abbrev start4 : tie.After-put-word4 → tie.Start
+abbrev start4 : tie.After-put_word-fourth → tie.Start
 start4 c = start3 c.before.before.before.before
 
-abbrev start5 : tie.After-put-word5 → tie.Start
+abbrev start5 : tie.After-put_word-fifth → tie.Start
 start5 c = start4 c.before.before.before.before
 
-abbrev start6 : tie.After-put-word6 → tie.Start
+abbrev start6 : tie.After-put_word-sixth → tie.Start
 start6 c = start5 c.before.before.before.before
 
 none : (s : tie.Start) → Done s 0 s.args.file.now s.args.at
 none s = words_none sector_limit (columns s) s.args.at s.args.file.now
 
-done1 : (c : tie.After-put-word) → Done (start1 c) 1 c.put_word.new.1.1.1.0 c.put_word.result
-done1 c = words_more (none (start1 c)) (lit< tt) refl c.put_word.ensures
+done1 : (c : tie.After-put_word-first) → Done (start1 c) 1 c.put_word-first.new.file c.put_word-first.result
+done1 c = words_more (none (start1 c)) (lit< tt) refl c.put_word-first.ensures
 
-done2 : (c : tie.After-put-word2) → Done (start2 c) 2 c.put-word2.new.1.1.1.0 c.put-word2.result
-done2 c = words_more (done1 c.before.before.before.before) (lit< tt) refl c.put-word2.ensures
+done2 : (c : tie.After-put_word-second) → Done (start2 c) 2 c.put_word-second.new.file c.put_word-second.result
+done2 c = words_more (done1 c.before.before.before.before) (lit< tt) refl c.put_word-second.ensures
 
-done3 : (c : tie.After-put-word3) → Done (start3 c) 3 c.put-word3.new.1.1.1.0 c.put-word3.result
-done3 c = words_more (done2 c.before.before.before.before) (lit< tt) refl c.put-word3.ensures
+done3 : (c : tie.After-put_word-third) → Done (start3 c) 3 c.put_word-third.new.file c.put_word-third.result
+done3 c = words_more (done2 c.before.before.before.before) (lit< tt) refl c.put_word-third.ensures
 
-done4 : (c : tie.After-put-word4) → Done (start4 c) 4 c.put-word4.new.1.1.1.0 c.put-word4.result
-done4 c = words_more (done3 c.before.before.before.before) (lit< tt) refl c.put-word4.ensures
+done4 : (c : tie.After-put_word-fourth) → Done (start4 c) 4 c.put_word-fourth.new.file c.put_word-fourth.result
+done4 c = words_more (done3 c.before.before.before.before) (lit< tt) refl c.put_word-fourth.ensures
 
-done5 : (c : tie.After-put-word5) → Done (start5 c) 5 c.put-word5.new.1.1.1.0 c.put-word5.result
-done5 c = words_more (done4 c.before.before.before.before) (lit< tt) refl c.put-word5.ensures
+done5 : (c : tie.After-put_word-fifth) → Done (start5 c) 5 c.put_word-fifth.new.file c.put_word-fifth.result
+done5 c = words_more (done4 c.before.before.before.before) (lit< tt) refl c.put_word-fifth.ensures
 
-done6 : (c : tie.After-put-word6) → Done (start6 c) 6 c.put-word6.new.1.1.1.0 c.put-word6.result
-done6 c = words_more (done5 c.before.before.before.before) (lit< tt) refl c.put-word6.ensures
+done6 : (c : tie.After-put_word-sixth) → Done (start6 c) 6 c.put_word-sixth.new.file c.put_word-sixth.result
+done6 c = words_more (done5 c.before.before.before.before) (lit< tt) refl c.put_word-sixth.ensures
 
 returns : tie.Need-returns
-returns c = words_done (words_more (done6 c.before.before.before.before.before.before) (lit< tt) refl c.before.before.put-word7.ensures) (le_refl 7)
+returns c = words_done (words_more (done6 c.before.before.before.before.before.before) (lit< tt) refl c.before.before.put_word.ensures) (le_refl 7)
 
 pub put_columns_spec : {M : Type 1} → statement M
 put_columns_spec =

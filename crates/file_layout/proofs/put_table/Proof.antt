@@ -19,7 +19,7 @@ use Rattle.file_layout.proofs.put_table.Tie as tie
 abbrev table : tie.Start → Table
 table s =
     let a = s.args in
-    table_from a.n (slices_of a.x.now a.final-demand.now a.exports.now a.imports.now a.value-added.now a.production.now a.adjustment.now a.rises.now)
+    table_from a.n (slices_of a.x.now a.final_demand.now a.exports.now a.imports.now a.value_added.now a.production.now a.adjustment.now a.rises.now)
 
 -- its parts after kind 1
 abbrev flows : tie.Start → List ℕ
@@ -41,46 +41,46 @@ start s = begin (written (table s)) 0 s.args.file.now
 fits : (s : tie.Start) → 0 + length (written (table s)) ≤ length s.args.file.now
 fits s = rw (zero-add (length (written (table s)))) s.requires.2
 
-abbrev entry : tie.After-put-bytes → tie.Start
+abbrev entry : tie.After-put_bytes-flows → tie.Start
 entry c = c.before.before.before.before.before.before.before.before.before.before.before.before
 
-opened : (c : tie.After-put-bytes) → let s = entry c in Left s c.put-bytes.new.1.1.0 c.put-bytes.result (flows s ++ (columns s ++ (8 ∷ [])))
-opened c = let s = entry c in go_on (opening s) (flows s ++ (columns s ++ (8 ∷ []))) (table_parts (table s)) (start s) c.put-bytes.ensures
+opened : (c : tie.After-put_bytes-flows) → let s = entry c in Left s c.put_bytes-flows.new.out c.put_bytes-flows.result (flows s ++ (columns s ++ (8 ∷ [])))
+opened c = let s = entry c in go_on (opening s) (flows s ++ (columns s ++ (8 ∷ []))) (table_parts (table s)) (start s) c.put_bytes-flows.ensures
 
-abbrev before-rows : tie.After-put-rows → tie.After-put-bytes
+abbrev before-rows : tie.After-put_rows-columns → tie.After-put_bytes-flows
 before-rows c = c.before.before.before.before
 
-listed : (c : tie.After-put-rows) → let s = entry (before-rows c) in Left s c.put-rows.new.1.1.1.0 c.put-rows.result (columns s ++ (8 ∷ []))
-listed c = let s = entry (before-rows c) in go_on (flows s) (columns s ++ (8 ∷ [])) refl (opened (before-rows c)) c.put-rows.ensures
+listed : (c : tie.After-put_rows-columns) → let s = entry (before-rows c) in Left s c.put_rows-columns.new.file c.put_rows-columns.result (columns s ++ (8 ∷ []))
+listed c = let s = entry (before-rows c) in go_on (flows s) (columns s ++ (8 ∷ [])) refl (opened (before-rows c)) c.put_rows-columns.ensures
 
-abbrev before-columns : tie.After-put-columns → tie.After-put-rows
+abbrev before-columns : tie.After-put_columns-end → tie.After-put_rows-columns
 before-columns c = c.before.before.before.before
 
-closing : (c : tie.After-put-columns) → let s = entry (before-rows (before-columns c)) in Left s c.put-columns.new.1.1.1.1.1.1.1.1.0 c.put-columns.result (8 ∷ [])
-closing c = let s = entry (before-rows (before-columns c)) in go_on (columns s) (8 ∷ []) refl (listed (before-columns c)) c.put-columns.ensures
+closing : (c : tie.After-put_columns-end) → let s = entry (before-rows (before-columns c)) in Left s c.put_columns-end.new.file c.put_columns-end.result (8 ∷ [])
+closing c = let s = entry (before-rows (before-columns c)) in go_on (columns s) (8 ∷ []) refl (listed (before-columns c)) c.put_columns-end.ensures
 
-put-bytes-requires : tie.Need-put-bytes-requires
+put-bytes-requires : tie.Need-put_bytes-flows-requires
 put-bytes-requires c κs =
     let s = c.before.before.before.before.before.before.before.before.before.before.before in
     room_first (opening s) (flows s ++ (columns s ++ (8 ∷ []))) (table_parts (table s)) (fits s) (start s)
 
-put-rows-requires : tie.Need-put-rows-requires
+put-rows-requires : tie.Need-put_rows-columns-requires
 put-rows-requires c κs =
     let q = c.before.before.before in
     let s = entry q in
-    ((s.pre.0.few, s.pre.0.flows), (s.pre.1.flows, room_first (flows s) (columns s ++ (8 ∷ [])) refl (fits s) (opened q)))
+    ((s.requires.0.few, s.requires.0.flows), (s.requires.1.flows, room_first (flows s) (columns s ++ (8 ∷ [])) refl (fits s) (opened q)))
 
-put-columns-requires : tie.Need-put-columns-requires
+put-columns-requires : tie.Need-put_columns-end-requires
 put-columns-requires c κs =
     let q = c.before.before.before in
     let s = entry (before-rows q) in
     let t = table s in
-    let f : Fit t = record { sizes = s.pre.0; count = refl } in (
-      λ k h. (omega (arith, s.pre.0.few, by_kind_long t f k h), λ i. rw (by_kind t f k h) (s.pre.1.columns (kind_place k) i)),
+    let f : Fit t = record { sizes = s.requires.0; count = refl } in (
+      λ k h. (omega (arith, s.requires.0.few, by_kind_long t f k h), λ i. rw (by_kind t f k h) (s.requires.1.columns (kind_place k) i)),
       room_first (columns s) (8 ∷ []) refl (fits s) (listed q),
     )
 
-put-byte-requires : tie.Need-put-byte-requires
+put-byte-requires : tie.Need-put_byte-requires
 put-byte-requires c κs =
     let q = c.before.before.before in
     room (fits (entry (before-rows (before-columns q)))) (closing q)

@@ -4,16 +4,16 @@ use Rattle.file_steps.proofs.WalkLaws.{ended, trailing}
 use Rattle.file_steps.proofs.end_at.Statement.{statement}
 use Rattle.file_steps.proofs.end_at.Tie as tie
 
-returns : tie.Need-returns
-returns c = let s = c.before in λ n marks fuel es a. ended s.args.file.now n s.args.at fuel es s.requires.0 s.requires.1 c.if1.true
+returns : tie.Need-returns-then-at-file
+returns c = let s = c.before in λ n marks fuel es a. ended s.args.file.now n s.args.at fuel es s.requires.0 s.requires.1 c.if-at-file.true
 
-returns-2 : tie.Need-returns-2
-returns-2 c = let s = c.before in λ n marks fuel es a. trailing s.args.file.now n s.args.at fuel es s.requires.0 s.requires.1 c.if1.false
+returns-2 : tie.Need-returns
+returns-2 c = let s = c.before in λ n marks fuel es a. trailing s.args.file.now n s.args.at fuel es s.requires.0 s.requires.1 c.if-at-file.false
 
-add-if1 : tie.Need-overflow-add-if1
+add-if1 : tie.Need-overflow_add-at
 add-if1 c = search rules
 
-add-t3 : tie.Need-overflow-add-t3
+add-t3 : tie.Need-overflow_add-result
 add-t3 c = search rules
 
 pub end_at_spec : {M : Type 1} → statement M

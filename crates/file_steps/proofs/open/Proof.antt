@@ -5,7 +5,6 @@ use mathlib.Core.Path.{◌≡◌, sym, ap, ◌∙◌}
 use Prim.Native.Nat.{ℕ, ◌≤◌}
 use native.Mathlib.Omega.{arith}
 use borrow.Author.Rules.{rules}
-use borrow.Author.Tests.{not-true, not-false}
 use lib.ListN.{length}
 use Rattle.model.specs.Numbers.{cell}
 use Rattle.model.specs.Table.{sector_limit, few_sectors}
@@ -17,44 +16,44 @@ use Rattle.file_steps.proofs.open.Statement.{statement}
 use Rattle.file_steps.proofs.open.Tie as tie
 
 -- past question 11, and past the kind
-abbrev entry : tie.Else2 → tie.Start
+abbrev entry : tie.Else-not-is_whole → tie.Start
 entry c = c.before.before.before.before
 
-whole : (c : tie.Else2) → whole_at (entry c).args.file.now 0 ≡ true
-whole c = sym c.before.is_whole.ensures ∙ not-false _ c.if2.false
+whole : (c : tie.Else-not-is_whole) → whole_at (entry c).args.file.now 0 ≡ true
+whole c = sym c.before.is_whole.ensures ∙ c.if-not-is_whole.false
 
-long : (c : tie.Else3) → 2 ≤ length (entry c.before.before).args.file.now
+long : (c : tie.Else-file-ne1) → 2 ≤ length (entry c.before.before).args.file.now
 long c =
     let q = c.before.before in
-    let f = q.before.before.if1.false in
-    omega (arith, first_long (entry q).args.file.now 0 (record { inside = omega (arith, f); whole = whole q }) c.if3.false)
+    let f = q.before.before.if-file-eq0.false in
+    omega (arith, first_long (entry q).args.file.now 0 (record { inside = omega (arith, f); whole = whole q }) c.if-file-ne1.false)
 
-sized : (c : tie.After-is-sized) → few_sectors (cell (entry c.before.before.before.before.before).args.file.now 1) ≡ c.is-sized.result
-sized c = ap few_sectors (sym c.before.wide.ensures.0) ∙ sym c.is-sized.ensures
+sized : (c : tie.After-is_sized) → few_sectors (cell (entry c.before.before.before.before.before).args.file.now 1) ≡ c.is_sized.result
+sized c = ap few_sectors (sym c.before.wide-n.ensures.0) ∙ sym c.is_sized.ensures
 
-returns : tie.Need-returns
-returns c = empty c.before.before.args.file.now c.if1.true
+returns : tie.Need-returns-then-file-eq0
+returns c = empty c.before.before.args.file.now c.if-file-eq0.true
 
-returns-2 : tie.Need-returns-2
-returns-2 c = first_broken c.before.before.before.before.args.file.now c.before.before.if1.false (sym c.before.is_whole.ensures ∙ not-true _ c.if2.true)
+returns-2 : tie.Need-returns-then-not-is_whole
+returns-2 c = first_broken c.before.before.before.before.args.file.now c.before.before.if-file-eq0.false (sym c.before.is_whole.ensures ∙ c.if-not-is_whole.true)
 
-returns-3 : tie.Need-returns-3
-returns-3 c = let q = c.before.before in first_other (entry q).args.file.now q.before.before.if1.false (whole q) c.if3.true
+returns-3 : tie.Need-returns-then-file-ne1
+returns-3 c = let q = c.before.before in first_other (entry q).args.file.now q.before.before.if-file-eq0.false (whole q) c.if-file-ne1.true
 
-returns-4 : tie.Need-returns-4
+returns-4 : tie.Need-returns-then-not-is_sized
 returns-4 c =
     let e = c.before.before.before.before in
     let q = e.before.before in
-    not_sized (entry q).args.file.now q.before.before.if1.false (whole q) e.if3.false (sized c.before ∙ not-true _ c.if4.true)
+    not_sized (entry q).args.file.now q.before.before.if-file-eq0.false (whole q) e.if-file-ne1.false (sized c.before ∙ c.if-not-is_sized.true)
 
-returns-5 : tie.Need-returns-5
+returns-5 : tie.Need-returns
 returns-5 c =
     let e = c.before.before.before.before in
     let q = e.before.before in
     let s = (entry q).args.file.now in
-    let few = sized c.before ∙ not-false _ c.if4.false in
-    let n = c.before.before.wide.ensures.0 in (
-      opens s q.before.before.if1.false (whole q) e.if3.false few ∙ ap (λ (n : ℕ). walk (length s) s n [] 2) (sym n),
+    let few = sized c.before ∙ c.if-not-is_sized.false in
+    let n = c.before.before.wide-n.ensures.0 in (
+      opens s q.before.before.if-file-eq0.false (whole q) e.if-file-ne1.false few ∙ ap (λ (n : ℕ). walk (length s) s n [] 2) (sym n),
       omega (arith, n, (from_one (cell s 1) sector_limit few).1),
       long e,
     )

@@ -10,32 +10,32 @@ use Rattle.implied.proofs.check_production.Statement.{statement}
 use Rattle.implied.proofs.check_production.Tie as tie
 
 -- questions 1, 2 and 7 of the call's slices, what was answered to them, and question 8
-abbrev entry : tie.After-check-domestic → tie.Start
+abbrev entry : tie.After-check_domestic-matrix → tie.Start
 entry q = q.before.before.before.before
 
-abbrev asked : tie.After-check-domestic → List Check
-asked q = let a = (entry q).args in matrix_checks a.n a.d.now [] (length a.y.now ∷ a.out-len ∷ [])
+abbrev asked : tie.After-check_domestic-matrix → List Check
+asked q = let a = (entry q).args in matrix_checks a.n a.d.now [] (length a.y.now ∷ a.out_len ∷ [])
 
-abbrev last : tie.After-check-domestic → List Check
+abbrev last : tie.After-check_domestic-matrix → List Check
 last q = let a = (entry q).args in production_total a.n a.y.now ∷ []
 
-returns : tie.Need-returns
+returns : tie.Need-returns-in_default
 unfolding implied_report
 returns c =
-    let q = c.before.before in
-    answered_end (asked q) q.check-domestic.ensures (last q) c.enum-told2.given.1
+    let q = c.before in
+    answered_end (asked q) q.check_domestic-matrix.ensures (last q) c.in_default.is
 
-total-within-requires : tie.Need-total-within-requires
+total-within-requires : tie.Need-total_within-requires
 total-within-requires c κs =
-    let q = c.before.before in
+    let q = c.before in
     let a = (entry q).args in
-    first-length a.n a.d.now [] (a.out-len ∷ []) (length a.y.now) (answered_pass (asked q) q.check-domestic.ensures c.enum_told.given.1)
+    first-length a.n a.d.now [] (a.out_len ∷ []) (length a.y.now) (answered_pass (asked q) q.check_domestic-matrix.ensures c.in-Accepted.is)
 
-returns-2 : tie.Need-returns-2
+returns-2 : tie.Need-returns
 unfolding implied_report
 returns-2 c =
-    let q = c.before.before.before in
-    c.total-within.ensures ∙ answered_on (asked q) q.check-domestic.ensures (last q) [] c.before.enum_told.given.1
+    let q = c.before.before in
+    c.total_within.ensures ∙ answered_on (asked q) q.check_domestic-matrix.ensures (last q) [] c.in-Accepted.is
 
 pub check_production_spec : {M : Type 1} → statement M
 check_production_spec =

@@ -13,39 +13,39 @@ use Rattle.theory_rounds.proofs.Promises.{implied, implied_fits}
 use Rattle.implied.proofs.implied_demand.Statement.{statement}
 use Rattle.implied.proofs.implied_demand.Tie as tie
 
-abbrev entry : tie.After-check-production → tie.Start
+abbrev entry : tie.After-check_production-checked → tie.Start
 entry q = q.before.before.before
 
 -- an accepted call's report
 accepted :
-    (p : tie.After-enum-told) →
-    let a = (entry p.before.before).args in
+    (p : tie.In-Accepted) →
+    let a = (entry p.before).args in
     accepts [] ≡ implied_report a.n a.d.now a.production.now (length a.out.now ∷ [])
-accepted p = sym (ap report p.enum_told.given.1) ∙ p.before.before.check-production.ensures
+accepted p = sym (ap report p.in-Accepted.is) ∙ p.check_production-checked.ensures
 
 subtract-requires : tie.Need-subtract-requires
 subtract-requires c κs =
     let p = c.before in
-    let a = (entry p.before.before).args in
+    let a = (entry p.before).args in
     let g = accepted_implied a.n a.d.now a.production.now (length a.out.now ∷ []) (ap (λ (r : Report). r.accepted) (sym (accepted p))) in (
       (g.matrix.cells, g.cells, g.slices.0),
       λ i h. (implied_fits g.matrix a.production.now g.total i h, omega (arith, g.total, sum-cell a.n (cell a.production.now) i h)),
     )
 
-returns : tie.Need-returns
+returns : tie.Need-returns-in-Refused
 returns c =
     let k = c.before.before.before.before in
     let q = k.before.before in
     let a = (entry q).args in
-    let e = sym (ap report k.checked.given.1) ∙ q.check-production.ensures in
-    let o = c.before.fill-zero-signed.ensures in
+    let e = sym (ap report k.in-Refused.is) ∙ q.check_production-checked.ensures in
+    let o = c.fill_zero_signed.ensures in
     implied a.n a.d.now a.production.now a.out.now e o
 
-returns-2 : tie.Need-returns-2
+returns-2 : tie.Need-returns-in-Accepted
 returns-2 c =
     let p = c.before.before.before in
-    let a = (entry p.before.before).args in
-    let o = c.before.subtract.ensures in
+    let a = (entry p.before).args in
+    let o = c.subtract.ensures in
     implied a.n a.d.now a.production.now a.out.now (accepted p) o
 
 pub implied_demand_spec : {M : Type 1} → statement M

@@ -10,63 +10,63 @@ use Rattle.theory_rounds.proofs.Answers.{InducedSizes, induced_sizes}
 use Rattle.induced.proofs.check_induced.Statement.{statement}
 use Rattle.induced.proofs.check_induced.Tie as tie
 
-abbrev entry : tie.After-check-sizes → tie.Start
+abbrev entry : tie.After-check_sizes-sizes → tie.Start
 entry q = q.before.before.before.before.before.before.before.before
 
 -- questions 1 and 2, question 3, and question 8
-abbrev sizes : tie.After-check-sizes → List Check
+abbrev sizes : tie.After-check_sizes-sizes → List Check
 sizes q =
     let a = (entry q).args in
-    let columns = length a.m.now ∷ length a.v.now ∷ length a.final-demand.now ∷ length a.y.now ∷ a.value_len ∷ a.imports-len ∷ [] in
+    let columns = length a.m.now ∷ length a.v.now ∷ length a.final_demand.now ∷ length a.y.now ∷ a.value_len ∷ a.imports_len ∷ [] in
     size a.n ∷ lengths a.n (length a.a.now ∷ []) columns ∷ []
 
-abbrev amounts : tie.After-check-sizes → List Check
-amounts q = let a = (entry q).args in induced_amounts a.a.now a.m.now a.v.now a.final-demand.now
+abbrev amounts : tie.After-check_sizes-sizes → List Check
+amounts q = let a = (entry q).args in induced_amounts a.a.now a.m.now a.v.now a.final_demand.now
 
-abbrev last : tie.After-check-sizes → List Check
+abbrev last : tie.After-check_sizes-sizes → List Check
 last q = production_total (entry q).args.n (entry q).args.y.now ∷ []
 
 -- what questions 1 and 2 say, and what was answered to question 3 after them
 lengths-are :
-    (p : tie.After-enum-told) →
-    let a = (entry p.before.before).args in
-    InducedSizes a.n a.a.now a.m.now a.v.now a.final-demand.now (length a.y.now) (a.value_len ∷ a.imports-len ∷ [])
+    (p : tie.In-Accepted) →
+    let a = (entry p.before).args in
+    InducedSizes a.n a.a.now a.m.now a.v.now a.final_demand.now (length a.y.now) (a.value_len ∷ a.imports_len ∷ [])
 lengths-are p =
-    let q = p.before.before in
+    let q = p.before in
     let a = (entry q).args in
-    let s = answered_pass (sizes q) q.check-sizes.ensures p.enum_told.given.1 in
-    induced_sizes a.n a.a.now a.m.now a.v.now a.final-demand.now (length a.y.now) (a.value_len ∷ a.imports-len ∷ []) s.0 s.1.0
+    let s = answered_pass (sizes q) q.check_sizes-sizes.ensures p.in-Accepted.is in
+    induced_sizes a.n a.a.now a.m.now a.v.now a.final_demand.now (length a.y.now) (a.value_len ∷ a.imports_len ∷ []) s.0 s.1.0
 
-said : (r : tie.After-check-shares) → let q = r.before.before.before in report r.check-shares.result ≡ verdict (sizes q ++ amounts q) []
+said : (r : tie.After-check_shares-amounts) → let q = r.before.before in report r.check_shares-amounts.result ≡ verdict (sizes q ++ amounts q) []
 said r =
     let p = r.before in
-    let q = p.before.before in
-    r.check-shares.ensures ∙ answered_on (sizes q) q.check-sizes.ensures (amounts q) [] p.enum_told.given.1
+    let q = p.before in
+    r.check_shares-amounts.ensures ∙ answered_on (sizes q) q.check_sizes-sizes.ensures (amounts q) [] p.in-Accepted.is
 
-returns : tie.Need-returns
+returns : tie.Need-returns-in_default
 unfolding induced_report
 returns c =
-    let q = c.before.before in
-    answered_end (sizes q) q.check-sizes.ensures (amounts q ++ last q) c.enum-told2.given.1
+    let q = c.before in
+    answered_end (sizes q) q.check_sizes-sizes.ensures (amounts q ++ last q) c.in_default.is
 
-check-shares-requires : tie.Need-check-shares-requires
+check-shares-requires : tie.Need-check_shares-amounts-requires
 check-shares-requires c κs =
     let s = lengths-are c in
     (s.few, s.inputs, s.imports, s.values, s.demand)
 
-returns-2 : tie.Need-returns-2
+returns-2 : tie.Need-returns-in_default-amounts
 unfolding induced_report
 returns-2 c =
-    let r = c.before.before in
-    let q = r.before.before.before in
-    answered_end (sizes q ++ amounts q) (said r) (last q) c.enum-told4.given.1
+    let r = c.before in
+    let q = r.before.before in
+    answered_end (sizes q ++ amounts q) (said r) (last q) c.in_default-amounts.is
 
-returns-3 : tie.Need-returns-3
+returns-3 : tie.Need-returns
 unfolding induced_report
 returns-3 c =
-    let r = c.before.before.before in
-    let q = r.before.before.before in
-    c.total-within.ensures ∙ answered_on (sizes q ++ amounts q) (said r) (last q) [] c.before.enum-told3.given.1
+    let r = c.before.before in
+    let q = r.before.before in
+    c.total_within.ensures ∙ answered_on (sizes q ++ amounts q) (said r) (last q) [] c.in-Accepted-amounts.is
 
 pub check_induced_spec : {M : Type 1} → statement M
 check_induced_spec =
@@ -74,4 +74,4 @@ check_induced_spec =
     (tie.spec
     (λ c. search rules) (λ c. search rules) (λ c κs. search rules) (λ c. search rules) (λ c. search rules) returns
     check-shares-requires (λ c. search rules) (λ c. search rules) returns-2
-    (λ c κs. (lengths-are c.before.before.before).production) returns-3)
+    (λ c κs. (lengths-are c.before.before).production) returns-3)

@@ -13,76 +13,76 @@ use Rattle.theory_rounds.proofs.Rounds.{weighted_shares, intermediate-within}
 use Rattle.induced.proofs.fill_induced_imports.Statement.{statement}
 use Rattle.induced.proofs.fill_induced_imports.Tie as tie
 
-abbrev invariant-loop : tie.invariant-loop
+abbrev invariant-loop : tie.invariant-loop-i
 invariant-loop n a m demand y out₀ i₀ out i = Front n (λ k. portion (cell m k) (intermediate n (at n a) (cell y) k + cell demand k)) out i
 
-abbrev decreases-loop : tie.decreases-loop
+abbrev decreases-loop : tie.decreases-loop-i
 decreases-loop n a m demand y out₀ i₀ out i = n - i
 
-abbrev entry : tie.At-loop invariant-loop decreases-loop → tie.Start invariant-loop decreases-loop
+abbrev entry : tie.At-loop-i invariant-loop decreases-loop → tie.Start invariant-loop decreases-loop
 entry p = p.before.before.before.before.before.before
 
 -- no weighted sum of the row is larger than the whole production in millionths
 fits :
-    (c : tie.In-loop invariant-loop decreases-loop) →
+    (c : tie.In-loop-i invariant-loop decreases-loop) →
     let a = (entry c.before).args in
-    weighted a.n (at a.n a.a.now) (cell a.y.now) c.before.loop.i ≤ one * production_limit
+    weighted a.n (at a.n a.a.now) (cell a.y.now) c.loop-i.i ≤ one * production_limit
 fits c =
     let s = entry c.before in
     let a = s.args in
-    let i = c.before.loop.i in
+    let i = c.loop-i.i in
     le_trans
-    (weighted_shares a.n (at a.n a.a.now) (cell a.y.now) i (λ j h. s.pre.1.0 (i * a.n + j) (cell_in a.n i j c.loop-test.true h)))
-    (mul-le-mul_left one s.pre.1.1.1.1)
+    (weighted_shares a.n (at a.n a.a.now) (cell a.y.now) i (λ j h. s.requires.1.0 (i * a.n + j) (cell_in a.n i j c.loop-i-test.true h)))
+    (mul-le-mul_left one s.requires.1.1.1.1)
 
 -- what the sector needs, as the code has it
 needed :
-    (q : tie.After-intermediate-use invariant-loop decreases-loop) →
+    (q : tie.After-intermediate_use-need invariant-loop decreases-loop) →
     let a = (entry q.before.before).args in
-    (q.intermediate-use.result ≤ production_limit) × (cell a.final-demand.now q.before.before.loop.i ≤ amount_limit)
+    (q.intermediate_use-need.result ≤ production_limit) × (cell a.final_demand.now q.loop-i.i ≤ amount_limit)
 needed q =
     let s = entry q.before.before in
     let a = s.args in
-    let i = q.before.before.loop.i in (
-      omega (arith, q.intermediate-use.ensures, intermediate-within a.n (at a.n a.a.now) (cell a.y.now) i, fits q.before),
-      s.pre.1.1.1.0 i q.before.loop-test.true,
+    let i = q.loop-i.i in (
+      omega (arith, q.intermediate_use-need.ensures, intermediate-within a.n (at a.n a.a.now) (cell a.y.now) i, fits q.before),
+      s.requires.1.1.1.0 i q.loop-i-test.true,
     )
 
-intermediate-use-requires : tie.Need-intermediate-use-requires invariant-loop decreases-loop
+intermediate-use-requires : tie.Need-intermediate_use-need-requires invariant-loop decreases-loop
 intermediate-use-requires c κs =
     let s = entry c.before in
-    ((s.pre.0.0, s.pre.0.3, c.loop-test.true), fits c)
+    ((s.requires.0.0, s.requires.0.3, c.loop-i-test.true), fits c)
 
-add-portion-of : tie.Need-overflow-add-portion-of invariant-loop decreases-loop
+add-portion-of : tie.Need-overflow_add-need invariant-loop decreases-loop
 add-portion-of c = omega (arith, needed c.before.before)
 
-portion-of-requires : tie.Need-portion-of-requires invariant-loop decreases-loop
+portion-of-requires : tie.Need-portion_of-requires invariant-loop decreases-loop
 portion-of-requires c κs =
     let q = c.before.before in
     let p = q.before.before in
     let s = entry p in
     let a = s.args in
-    let i = p.loop.i in
-    let whole : q.intermediate-use.result + cell a.final-demand.now i ≤ 1601000000000 = omega (arith, needed q) in
-    omega (arith, mul-le-mul (s.pre.1.1.0 i q.before.loop-test.true) whole)
+    let i = p.loop-i.i in
+    let whole : q.intermediate_use-need.result + cell a.final_demand.now i ≤ 1601000000000 = omega (arith, needed q) in
+    omega (arith, mul-le-mul (s.requires.1.1.0 i q.loop-i-test.true) whole)
 
-loop-again : tie.Need-loop-preserved invariant-loop decreases-loop
+loop-again : tie.Need-loop-i-preserved invariant-loop decreases-loop
 loop-again c =
     let q = c.before.before.before in
     let p = q.before.before in
-    let i = p.loop.i in
+    let i = p.loop-i.i in
     let a = (entry p).args in
-    front_set p.loop.invariant q.before.loop-test.true
-    (c.portion-of.ensures ∙ ap (λ (t : ℕ). portion (cell a.m.now i) (t + cell a.final-demand.now i)) q.intermediate-use.ensures)
+    front_set p.loop-i.invariant q.loop-i-test.true
+    (c.portion_of.ensures ∙ ap (λ (t : ℕ). portion (cell a.m.now i) (t + cell a.final_demand.now i)) q.intermediate_use-need.ensures)
 
 returns : tie.Need-returns invariant-loop decreases-loop
 unfolding induced_imports
-returns c = front_done c.before.loop.invariant c.loop-test.false
+returns c = front_done c.loop-i.invariant c.loop-i-test.false
 
 pub fill_induced_imports_spec : {M : Type 1} → statement M
 fill_induced_imports_spec =
     tie.close
     (tie.spec
-    invariant-loop decreases-loop (λ c. front_none c.before.before.before.before.before.requires.0.4) intermediate-use-requires (λ c. omega arith) (λ c. omega arith) (λ c. omega arith) (λ c. omega arith)
+    invariant-loop decreases-loop (λ c. front_none c.requires.0.4) intermediate-use-requires (λ c. omega arith) (λ c. omega arith) (λ c. omega arith) (λ c. omega arith)
     add-portion-of portion-of-requires
     (λ c. omega arith) (λ c. omega arith) (λ c. omega arith) (λ c. omega arith) loop-again (λ c. omega arith) returns)

@@ -17,21 +17,21 @@ fields s = rest (map decimal s.args.cells.now)
 start : (s : tie.Start) → Begun (word s ++ fields s) s.args.at s.args.out.now s.args.out.now s.args.at (word s ++ fields s)
 start s = begin (word s ++ fields s) s.args.at s.args.out.now
 
-abbrev entry : tie.After-put-bytes → tie.Start
+abbrev entry : tie.After-put_bytes-next → tie.Start
 entry p = p.before.before.before.before.before
 
 named :
-    (p : tie.After-put-bytes) →
+    (p : tie.After-put_bytes-next) →
     let s = entry p in
-    Begun (word s ++ fields s) s.args.at s.args.out.now p.put-bytes.new.1.1.0 p.put-bytes.result (fields s)
-named p = let s = entry p in go_on (word s) (fields s) refl (start s) p.put-bytes.ensures
+    Begun (word s ++ fields s) s.args.at s.args.out.now p.put_bytes-next.new.out p.put_bytes-next.result (fields s)
+named p = let s = entry p in go_on (word s) (fields s) refl (start s) p.put_bytes-next.ensures
 
-put-bytes-requires : tie.Need-put-bytes-requires
+put-bytes-requires : tie.Need-put_bytes-next-requires
 put-bytes-requires c κs =
     let s = c.before.before.before.before in
     room_first (word s) (fields s) refl s.requires (start s)
 
-put-rest-requires : tie.Need-put-rest-requires
+put-rest-requires : tie.Need-put_rest-requires
 put-rest-requires c κs =
     let p = c.before.before.before in
     room (entry p).requires (named p)

@@ -8,7 +8,7 @@ returns : tie.Need-returns
 unfolding refusal_line
 returns c = search rules
 
-put-labelled-requires : tie.Need-put-labelled-requires
+put-labelled-requires : tie.Need-put_labelled-requires
 unfolding refusal_line
 put-labelled-requires c κs = search rules
 

@@ -7,38 +7,38 @@ use Rattle.page_lines.proofs.LineLaws.{Lines, no_lines, line_left, line_room, li
 use Rattle.page_lines.proofs.put_sectors.Statement.{statement}
 use Rattle.page_lines.proofs.put_sectors.Tie as tie
 
-abbrev invariant-loop : tie.invariant-loop
+abbrev invariant-loop : tie.invariant-loop-i
 invariant-loop n demand production value imports at out₀ next₀ i₀ out next i =
     (i ≤ n) × Lines (sector_line demand production value imports) i at out₀ out next
 
-abbrev decreases-loop : tie.decreases-loop
+abbrev decreases-loop : tie.decreases-loop-i
 decreases-loop n demand production value imports at out₀ next₀ i₀ out next i = n - i
 
-abbrev entry : tie.At-loop invariant-loop decreases-loop → tie.Start invariant-loop decreases-loop
+abbrev entry : tie.At-loop-i invariant-loop decreases-loop → tie.Start invariant-loop decreases-loop
 entry p = p.before.before.before.before.before.before
 
-loop-holds : tie.Need-loop-init invariant-loop decreases-loop
+loop-holds : tie.Need-loop-i-init invariant-loop decreases-loop
 loop-holds c =
     let a = c.before.before.before.before.before.args in
     (omega arith, no_lines (sector_line a.demand.now a.production.now a.value.now a.imports.now) a.at a.out.now)
 
-put-sector-requires : tie.Need-put-sector-requires invariant-loop decreases-loop
+put-sector-requires : tie.Need-put_sector-next-requires invariant-loop decreases-loop
 put-sector-requires c κs =
     let p = c.before.before in
     let s = entry p in
-    let here = c.before.loop-test.true in
-    let lengths = s.pre.0 in
-    ((omega arith, omega arith, omega arith, omega arith), line_room p.loop.invariant.1 s.args.n here s.pre.1)
+    let here = c.before.loop-i-test.true in
+    let lengths = s.requires.0 in
+    ((omega arith, omega arith, omega arith, omega arith), line_room p.loop-i.invariant.1 s.args.n here s.requires.1)
 
-loop-again : tie.Need-loop-preserved invariant-loop decreases-loop
-loop-again c = (omega arith, line_more c.before.before.before.before.before.loop.invariant.1 c.before.before.put-sector.ensures)
+loop-again : tie.Need-loop-i-preserved invariant-loop decreases-loop
+loop-again c = (omega arith, line_more c.before.before.before.before.before.loop-i.invariant.1 c.before.before.put_sector-next.ensures)
 
-same_length : tie.Need-same-length invariant-loop decreases-loop
-same_length c = kept (line_left c.before.loop.invariant.1)
+same_length : tie.Need-shape_of-out invariant-loop decreases-loop
+same_length c = kept (line_left c.before.loop-i.invariant.1)
 
 returns : tie.Need-returns invariant-loop decreases-loop
 returns c =
-    let l = c.before.loop in
+    let l = c.before.loop-i in
     lines_done l.invariant.1 (entry c.before).args.n l.invariant.0 (omega arith)
 
 pub put_sectors_spec : {M : Type 1} → statement M

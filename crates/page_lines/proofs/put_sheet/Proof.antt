@@ -32,31 +32,31 @@ unfolding sheet
 fits s = rw (zero-add (length (whole s))) s.requires.1
 
 -- after the headings
-abbrev entry : tie.After-put-headings → tie.Start
+abbrev entry : tie.After-put_headings-first → tie.Start
 entry p = p.before.before.before.before.before.before.before
 
-headed : (p : tie.After-put-headings) → let s = entry p in Left s p.put-headings.new.0 p.put-headings.result (sectors s ++ ending s)
-headed p = let s = entry p in go_on (line headings) (sectors s ++ ending s) refl (start s) p.put-headings.ensures
+headed : (p : tie.After-put_headings-first) → let s = entry p in Left s p.put_headings-first.new.out p.put_headings-first.result (sectors s ++ ending s)
+headed p = let s = entry p in go_on (line headings) (sectors s ++ ending s) refl (start s) p.put_headings-first.ensures
 
 -- after the sectors
-abbrev before-sectors : tie.After-put-sectors → tie.After-put-headings
+abbrev before-sectors : tie.After-put_sectors-last → tie.After-put_headings-first
 before-sectors q = q.before.before.before.before
 
-listed : (q : tie.After-put-sectors) → let s = entry (before-sectors q) in Left s q.put-sectors.new.1.1.1.1.1.1.0 q.put-sectors.result (ending s)
-listed q = let s = entry (before-sectors q) in go_on (sectors s) (ending s) refl (headed (before-sectors q)) q.put-sectors.ensures
+listed : (q : tie.After-put_sectors-last) → let s = entry (before-sectors q) in Left s q.put_sectors-last.new.out q.put_sectors-last.result (ending s)
+listed q = let s = entry (before-sectors q) in go_on (sectors s) (ending s) refl (headed (before-sectors q)) q.put_sectors-last.ensures
 
-put-headings-requires : tie.Need-put-headings-requires
+put-headings-requires : tie.Need-put_headings-first-requires
 put-headings-requires c κs =
     let s = c.before.before.before.before.before.before in
     room_first (line headings) (sectors s ++ ending s) refl (fits s) (start s)
 
-put-sectors-requires : tie.Need-put-sectors-requires
+put-sectors-requires : tie.Need-put_sectors-last-requires
 put-sectors-requires c κs =
     let p = c.before.before.before in
     let s = entry p in
-    (s.pre.0, room_first (sectors s) (ending s) refl (fits s) (headed p))
+    (s.requires.0, room_first (sectors s) (ending s) refl (fits s) (headed p))
 
-put-rounds-requires : tie.Need-put-rounds-requires
+put-rounds-requires : tie.Need-put_rounds-requires
 put-rounds-requires c κs =
     let q = c.before.before.before in
     room (fits (entry (before-sectors q))) (listed q)
@@ -65,7 +65,7 @@ returns : tie.Need-returns
 unfolding sheet
 returns c =
     let q = c.before.before.before.before.before.before in
-    let w = done (listed q) c.before.before.put-rounds.ensures in
+    let w = done (listed q) c.before.before.put_rounds.ensures in
     (w.0 ∙ zero-add (length (whole (entry (before-sectors q)))), w.1)
 
 pub put_sheet_spec : {M : Type 1} → statement M

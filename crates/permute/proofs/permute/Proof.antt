@@ -14,87 +14,87 @@ use Rattle.theory_orders.proofs.Permuted.{Permutable, accepted_known, permuted}
 use Rattle.permute.proofs.permute.Statement.{statement}
 use Rattle.permute.proofs.permute.Tie as tie
 
-abbrev entry : tie.After-check-called → tie.Start
+abbrev entry : tie.After-check_called-answer → tie.Start
 entry q = q.before.before.before.before.before.before.before.before.before.before.before.before.before.before.before.before.before
 
 abbrev table : tie.Start → Table
-table s = let a = s.args in table_by a.n a.x.now a.final-demand.now a.exports.now a.imports.now a.value-added.now a.production.now a.adjustment.now
+table s = let a = s.args in table_by a.n a.x.now a.final_demand.now a.exports.now a.imports.now a.value_added.now a.production.now a.adjustment.now
 
 -- the lengths of the outputs
 abbrev matrices : tie.Start → List ℕ
-matrices s = length s.args.permuted-x.now ∷ []
+matrices s = length s.args.permuted_x.now ∷ []
 
 abbrev lent : tie.Start → List ℕ
-lent s = let a = s.args in length a.permuted-final-demand.now ∷ length a.permuted-exports.now ∷ length a.permuted-imports.now ∷ length a.permuted-value-added.now ∷ length a.permuted-production.now ∷ length a.permuted-adjustment.now ∷ length a.inverse.now ∷ []
+lent s = let a = s.args in length a.permuted_final_demand.now ∷ length a.permuted_exports.now ∷ length a.permuted_imports.now ∷ length a.permuted_value_added.now ∷ length a.permuted_production.now ∷ length a.permuted_adjustment.now ∷ length a.inverse.now ∷ []
 
 -- what an accepted call knows of its table and its list
-known : (q : tie.After-check-called) → (report q.check-called.result).accepted ≡ true → let s = entry q in Permutable (table s) s.args.order.now (matrices s) (lent s)
-known q ok = let s = entry q in accepted_known (table s) s.args.order.now (matrices s) (lent s) q.check-called.ensures ok
+known : (q : tie.After-check_called-answer) → (report q.check_called-answer.result).accepted ≡ true → let s = entry q in Permutable (table s) s.args.order.now (matrices s) (lent s)
+known q ok = let s = entry q in accepted_known (table s) s.args.order.now (matrices s) (lent s) q.check_called-answer.ensures ok
 
 returns : tie.Need-returns
 returns c =
     let q = c.before.before.before.before.before.before.before.before.before.before.before.before.before.before.before.before.before.before.before.before.before.before.before.before.before.before.before.before.before.before.before.before in
     let a = (entry q).args in
-    permuted a.n a.x.now a.final-demand.now a.exports.now a.imports.now a.value-added.now a.production.now a.adjustment.now a.order.now {x₀ = a.permuted-x.now} {f₀ = a.permuted-final-demand.now} {e₀ = a.permuted-exports.now} {m₀ = a.permuted-imports.now} {v₀ = a.permuted-value-added.now} {p₀ = a.permuted-production.now} {a₀ = a.permuted-adjustment.now} {i₀ = a.inverse.now} q.check-called.ensures
-    c.before.before.before.before.before.before.before.before.before.before.before.before.before.before.before.before.before.before.before.before.before.before.before.before.before.before.before.before.before.before.leave-flows.ensures
-    c.before.before.before.before.before.before.before.before.before.before.before.before.before.before.before.before.before.before.before.before.before.before.before.before.before.before.leave-column.ensures
-    c.before.before.before.before.before.before.before.before.before.before.before.before.before.before.before.before.before.before.before.before.before.before.leave-column2.ensures
-    c.before.before.before.before.before.before.before.before.before.before.before.before.before.before.before.before.before.before.leave-column3.ensures
-    c.before.before.before.before.before.before.before.before.before.before.before.before.before.before.leave-column4.ensures
-    c.before.before.before.before.before.before.before.before.before.before.leave-column5.ensures
-    c.before.before.before.before.before.before.leave-column6.ensures
-    c.before.before.leave-inverse.ensures
+    permuted a.n a.x.now a.final_demand.now a.exports.now a.imports.now a.value_added.now a.production.now a.adjustment.now a.order.now {x₀ = a.permuted_x.now} {f₀ = a.permuted_final_demand.now} {e₀ = a.permuted_exports.now} {m₀ = a.permuted_imports.now} {v₀ = a.permuted_value_added.now} {p₀ = a.permuted_production.now} {a₀ = a.permuted_adjustment.now} {i₀ = a.inverse.now} q.check_called-answer.ensures
+    c.leave_flows.ensures
+    c.leave_column.ensures
+    c.leave_column-2.ensures
+    c.leave_column-3.ensures
+    c.leave_column-4.ensures
+    c.leave_column-5.ensures
+    c.leave_column-6.ensures
+    c.leave_inverse.ensures
 
-leave-flows-requires : tie.Need-leave-flows-requires
+leave-flows-requires : tie.Need-leave_flows-requires
 leave-flows-requires c κs =
     let q = c.before in (
       λ ok. let P = known q ok in (P.sizes.some, P.sizes.few, P.list, P.sizes.flows, P.squares.0),
       λ ok. entry_below (entry q).args.n (entry q).args.order.now (known q ok).fresh,
     )
 
-leave-column-requires : tie.Need-leave-column-requires
+leave-column-requires : tie.Need-leave_column-requires
 leave-column-requires c κs =
     let q = c.before.before.before.before.before in (
       λ ok. let P = known q ok in (P.list, P.sizes.columns 0 (lit< tt), P.slices.0),
       λ ok. entry_below (entry q).args.n (entry q).args.order.now (known q ok).fresh,
     )
 
-leave-column-requires-2 : tie.Need-leave-column-requires-2
+leave-column-requires-2 : tie.Need-leave_column-requires-2
 leave-column-requires-2 c κs =
     let q = c.before.before.before.before.before.before.before.before.before in (
       λ ok. let P = known q ok in (P.list, P.sizes.columns 1 (lit< tt), P.slices.1.0),
       λ ok. entry_below (entry q).args.n (entry q).args.order.now (known q ok).fresh,
     )
 
-leave-column-requires-3 : tie.Need-leave-column-requires-3
+leave-column-requires-3 : tie.Need-leave_column-requires-3
 leave-column-requires-3 c κs =
     let q = c.before.before.before.before.before.before.before.before.before.before.before.before.before in (
       λ ok. let P = known q ok in (P.list, P.sizes.columns 2 (lit< tt), P.slices.1.1.0),
       λ ok. entry_below (entry q).args.n (entry q).args.order.now (known q ok).fresh,
     )
 
-leave-column-requires-4 : tie.Need-leave-column-requires-4
+leave-column-requires-4 : tie.Need-leave_column-requires-4
 leave-column-requires-4 c κs =
     let q = c.before.before.before.before.before.before.before.before.before.before.before.before.before.before.before.before.before in (
       λ ok. let P = known q ok in (P.list, P.sizes.columns 3 (lit< tt), P.slices.1.1.1.0),
       λ ok. entry_below (entry q).args.n (entry q).args.order.now (known q ok).fresh,
     )
 
-leave-column-requires-5 : tie.Need-leave-column-requires-5
+leave-column-requires-5 : tie.Need-leave_column-requires-5
 leave-column-requires-5 c κs =
     let q = c.before.before.before.before.before.before.before.before.before.before.before.before.before.before.before.before.before.before.before.before.before in (
       λ ok. let P = known q ok in (P.list, P.sizes.columns 4 (lit< tt), P.slices.1.1.1.1.0),
       λ ok. entry_below (entry q).args.n (entry q).args.order.now (known q ok).fresh,
     )
 
-leave-column-requires-6 : tie.Need-leave-column-requires-6
+leave-column-requires-6 : tie.Need-leave_column-requires-6
 leave-column-requires-6 c κs =
     let q = c.before.before.before.before.before.before.before.before.before.before.before.before.before.before.before.before.before.before.before.before.before.before.before.before.before in (
       λ ok. let P = known q ok in (P.list, P.sizes.columns 5 (lit< tt), P.slices.1.1.1.1.1.0),
       λ ok. entry_below (entry q).args.n (entry q).args.order.now (known q ok).fresh,
     )
 
-leave-inverse-requires : tie.Need-leave-inverse-requires
+leave-inverse-requires : tie.Need-leave_inverse-requires
 leave-inverse-requires c κs = let q = c.before.before.before.before.before.before.before.before.before.before.before.before.before.before.before.before.before.before.before.before.before.before.before.before.before.before.before.before.before in λ ok. let P = known q ok in (P.list, P.slices.1.1.1.1.1.1.0)
 
 pub permute_spec : {M : Type 1} → statement M
@@ -102,4 +102,4 @@ permute_spec =
     tie.close
     (tie.spec
     (λ c κs. search rules) leave-flows-requires leave-column-requires leave-column-requires-2 leave-column-requires-3 leave-column-requires-4 leave-column-requires-5 leave-column-requires-6 leave-inverse-requires
-    (λ c. c.before.before.before.before.before.before.before.before.before.before.before.before.before.before.before.before.before.before.before.before.before.before.before.before.before.before.before.before.before.before.leave-flows.auto.1.1.1.1.0) (λ c. search rules) (λ c. search rules) (λ c. search rules) (λ c. search rules) (λ c. search rules) (λ c. search rules) (λ c. search rules) returns)
+    (λ c. c.leave_flows.auto.permuted) (λ c. search rules) (λ c. search rules) (λ c. search rules) (λ c. search rules) (λ c. search rules) (λ c. search rules) (λ c. search rules) returns)

@@ -27,23 +27,23 @@ record Advancing (n : ℕ) (start sums out₀ out increments : List ℕ) (moved 
   unchanged : eqb moved 0 ≡ same i (tabulate n (advanced start sums)) out₀
   bound : (k : ℕ) → k < i → advanced start sums k - cell out₀ k ≤ moved
 
-abbrev invariant-loop : tie.invariant-loop
+abbrev invariant-loop : tie.invariant-loop-i
 invariant-loop n start sums out₀ increments₀ moved₀ i₀ out increments moved i = Advancing n start sums out₀ out increments moved i
 
-abbrev decreases-loop : tie.decreases-loop
+abbrev decreases-loop : tie.decreases-loop-i
 decreases-loop n start sums out₀ increments₀ moved₀ i₀ out increments moved i = n - i
 
-abbrev entry : tie.At-loop invariant-loop decreases-loop → tie.Start invariant-loop decreases-loop
+abbrev entry : tie.At-loop-i invariant-loop decreases-loop → tie.Start invariant-loop decreases-loop
 entry p = p.before.before.before.before.before
 
-abbrev next : tie.At-loop invariant-loop decreases-loop → ℕ → ℕ
+abbrev next : tie.At-loop-i invariant-loop decreases-loop → ℕ → ℕ
 next p = advanced (entry p).args.start.now (entry p).args.sums.now
 
 -- the increment of a sector
-abbrev increment : tie.At-loop invariant-loop decreases-loop → ℕ → ℕ
+abbrev increment : tie.At-loop-i invariant-loop decreases-loop → ℕ → ℕ
 increment p k = next p k - cell (entry p).args.out.now k
 
-loop-holds : tie.Need-loop-init invariant-loop decreases-loop
+loop-holds : tie.Need-loop-i-init invariant-loop decreases-loop
 loop-holds c =
     let s = c.before.before.before.before in
     record {
@@ -56,73 +56,73 @@ loop-holds c =
       bound = below_none _;
     }
 
-taken-of-requires : tie.Need-taken-of-requires invariant-loop decreases-loop
-taken-of-requires c κs = let q = c.before in ((entry q.before).pre.1.0 q.before.loop.i q.loop-test.true).0
+taken-of-requires : tie.Need-taken_of-requires invariant-loop decreases-loop
+taken-of-requires c κs = let q = c.before in ((entry q.before).requires.1.0 q.loop-i.i q.loop-i-test.true).0
 
 -- after the call in a turn: the turn, and the new amount
-abbrev turn : tie.After-taken-of invariant-loop decreases-loop → tie.In-loop invariant-loop decreases-loop
+abbrev turn : tie.After-taken_of invariant-loop decreases-loop → tie.In-loop-i invariant-loop decreases-loop
 turn c = c.before.before
 
-abbrev amount : tie.After-taken-of invariant-loop decreases-loop → ℕ
-amount c = let p = (turn c).before in cell (entry p).args.start.now p.loop.i + c.Taken-of.result
+abbrev amount : tie.After-taken_of invariant-loop decreases-loop → ℕ
+amount c = let p = (turn c).before in cell (entry p).args.start.now p.loop-i.i + c.taken_of.result
 
-new : (c : tie.After-taken-of invariant-loop decreases-loop) → let p = (turn c).before in amount c ≡ next p p.loop.i
-new c = let p = (turn c).before in ap (λ (x : ℕ). cell (entry p).args.start.now p.loop.i + x) c.Taken-of.ensures
+new : (c : tie.After-taken_of invariant-loop decreases-loop) → let p = (turn c).before in amount c ≡ next p p.loop-i.i
+new c = let p = (turn c).before in ap (λ (x : ℕ). cell (entry p).args.start.now p.loop-i.i + x) c.taken_of.ensures
 
 -- it is within its limits, and the amount of a turn's sector is still the old one
-add-amount : tie.Need-overflow-add-amount invariant-loop decreases-loop
+add-amount : tie.Need-overflow_add-amount invariant-loop decreases-loop
 add-amount c =
     let q = turn c in
     let s = entry q.before in
-    let i = q.before.loop.i in
-    omega (arith, c.Taken-of.ensures, s.pre.1.0 i q.loop-test.taken, s.pre.1.1 i q.loop-test.taken)
+    let i = q.loop-i.i in
+    omega (arith, c.taken_of.ensures, s.requires.1.0 i q.loop-i-test.true, s.requires.1.1 i q.loop-i-test.true)
 
-still : (p : tie.At-loop invariant-loop decreases-loop) → cell p.loop.out p.loop.i ≡ cell (entry p).args.out.now p.loop.i
-still p = p.loop.invariant.amounts.1 p.loop.i (le_refl _)
+still : (p : tie.At-loop-i invariant-loop decreases-loop) → cell p.loop-i.out p.loop-i.i ≡ cell (entry p).args.out.now p.loop-i.i
+still p = p.loop-i.invariant.amounts.1 p.loop-i.i (le_refl _)
 
-sub-increment : tie.Need-overflow-sub-increment invariant-loop decreases-loop
+sub-increment : tie.Need-overflow_sub-increment invariant-loop decreases-loop
 sub-increment c =
     let q = turn c.before in
-    omega (arith, new c.before, still q.before, (entry q.before).pre.1.1 q.before.loop.i q.loop-test.taken)
+    omega (arith, new c.before, still q.before, (entry q.before).requires.1.1 q.loop-i.i q.loop-i-test.true)
 
-rose : (c : tie.After-taken-of invariant-loop decreases-loop) → let p = (turn c).before in amount c - cell p.loop.out p.loop.i ≡ increment p p.loop.i
+rose : (c : tie.After-taken_of invariant-loop decreases-loop) → let p = (turn c).before in amount c - cell p.loop-i.out p.loop-i.i ≡ increment p p.loop-i.i
 rose c = ap₂ ◌-◌ (new c) (still (turn c).before)
 
 -- what is told of the first i and one more
 told :
-    (q : tie.In-loop invariant-loop decreases-loop) →
+    (q : tie.In-loop-i invariant-loop decreases-loop) →
     let p = q.before in
-    let l = p.loop in
+    let l = p.loop-i in
     eqb (bit_or l.moved (increment p l.i)) 0 ≡ same (l.i + 1) (tabulate (entry p).args.n (next p)) (entry p).args.out.now
 told q =
     let p = q.before in
-    let l = p.loop in
+    let l = p.loop-i in
     let a = (entry p).args in
     or_none l.moved (increment p l.i)
-    ∙ ap (λ (b : Bool). eqb l.moved 0 && b) (increment_none (next p l.i) (cell a.out.now l.i) ((entry p).requires.1.1 l.i q.loop-test.true).1)
-    ∙ same_more l.i (tabulate a.n (next p)) a.out.now l.invariant.unchanged (sym (cell-tabulate a.n (next p) l.i q.loop-test.true))
+    ∙ ap (λ (b : Bool). eqb l.moved 0 && b) (increment_none (next p l.i) (cell a.out.now l.i) ((entry p).requires.1.1 l.i q.loop-i-test.true).1)
+    ∙ same_more l.i (tabulate a.n (next p)) a.out.now l.invariant.unchanged (sym (cell-tabulate a.n (next p) l.i q.loop-i-test.true))
 
 bounded :
-    (p : tie.At-loop invariant-loop decreases-loop) (k : ℕ) → k < p.loop.i + 1 → increment p k ≤ bit_or p.loop.moved (increment p p.loop.i)
+    (p : tie.At-loop-i invariant-loop decreases-loop) (k : ℕ) → k < p.loop-i.i + 1 → increment p k ≤ bit_or p.loop-i.moved (increment p p.loop-i.i)
 bounded p =
-    let l = p.loop in
+    let l = p.loop-i in
     below_more (λ k. increment p k ≤ bit_or l.moved (increment p l.i)) l.i
     (λ k h. le_trans (l.invariant.bound k h) (le_or_left l.moved (increment p l.i))) (le_or_right l.moved (increment p l.i))
 
-loop-again : tie.Need-loop-preserved invariant-loop decreases-loop
+loop-again : tie.Need-loop-i-preserved invariant-loop decreases-loop
 loop-again c =
     let s = c.before in
     let q = turn s in
     let p = q.before in
-    let l = p.loop in
+    let l = p.loop-i in
     let a = (entry p).args in
     let e = rose s in
     record {
       within = omega arith;
-      outs = simp length-set l.inv.outs;
-      lengthened = simp length-set l.inv.lengthened;
-      amounts = over_set l.out l.i _ a.out.now _ (omega arith) (new s) l.inv.amounts;
-      differences = agree_set l.increments l.i _ _ (omega arith) e l.inv.differences;
+      outs = simp length-set l.invariant.outs;
+      lengthened = simp length-set l.invariant.lengthened;
+      amounts = over_set l.out l.i _ a.out.now _ (omega arith) (new s) l.invariant.amounts;
+      differences = agree_set l.increments l.i _ _ (omega arith) e l.invariant.differences;
       unchanged = ap (λ (x : ℕ). eqb (bit_or l.moved x) 0) e ∙ told q;
       bound = λ k h. subst⁻¹ (λ (x : ℕ). increment p k ≤ bit_or l.moved x) e (bounded p k h);
     }
@@ -130,15 +130,15 @@ loop-again c =
 returns : tie.Need-returns invariant-loop decreases-loop
 returns c =
     let p = c.before in
-    let l = p.loop in
+    let l = p.loop-i in
     let a = (entry p).args in
     let all : l.i ≡ a.n = omega arith in (
       l.invariant.unchanged ∙ ap (λ (k : ℕ). same k (tabulate a.n (next p)) a.out.now) all,
       (
         λ k h. let g : k < l.i = omega arith in subst⁻¹ (λ (x : ℕ). x ≤ l.moved) (l.invariant.differences k g) (l.invariant.bound k g),
         (
-          tabulated a.n l.i (next p) l.out l.invariant.outs c.loop-test.false l.invariant.amounts.0,
-          tabulated a.n l.i _ l.increments l.invariant.lengthened c.loop-test.false l.invariant.differences,
+          tabulated a.n l.i (next p) l.out l.invariant.outs c.loop-i-test.false l.invariant.amounts.0,
+          tabulated a.n l.i _ l.increments l.invariant.lengthened c.loop-i-test.false l.invariant.differences,
         ),
       ),
     )

@@ -16,58 +16,58 @@ use Rattle.settle_round.specs.Advance.{advanced}
 use Rattle.settle_round.proofs.turn.Statement.{statement}
 use Rattle.settle_round.proofs.turn.Tie as tie
 
-abbrev entry : tie.After-add-increments → tie.Start
+abbrev entry : tie.After-add_increments → tie.Start
 entry q = q.before.before.before.before.before.before.before.before
 
-abbrev sums : tie.After-add-increments → List ℕ
-sums q = q.add-increments.new.1.1.1.1.0
+abbrev sums : tie.After-add_increments → List ℕ
+sums q = q.add_increments.new.sums
 
-abbrev next : tie.After-add-increments → List ℕ
+abbrev next : tie.After-add_increments → List ℕ
 next q = let a = (entry q).args in round a.n (at a.n a.d.now) a.start.now a.out.now
 
 -- the sums are those of the amounts, so the round is what they make of the start
-summed : (q : tie.After-add-increments) → SumsOf (entry q).args.n (entry q).args.d.now (sums q) (entry q).args.out.now
-summed q = q.add-increments.ensures (entry q).args.out.now (entry q).requires.1.0.2
+summed : (q : tie.After-add_increments) → SumsOf (entry q).args.n (entry q).args.d.now (sums q) (entry q).args.out.now
+summed q = q.add_increments.ensures (entry q).args.out.now (entry q).requires.1.0.2
 
-made_cell : (q : tie.After-add-increments) (i : ℕ) → i < (entry q).args.n → advanced (entry q).args.start.now (sums q) i ≡ cell (next q) i
+made_cell : (q : tie.After-add_increments) (i : ℕ) → i < (entry q).args.n → advanced (entry q).args.start.now (sums q) i ≡ cell (next q) i
 made_cell q i h =
     let a = (entry q).args in
     ap (λ (x : ℕ). cell a.start.now i + x) (taken_is (summed q) i h) ∙ sym (round_cell a.n (at a.n a.d.now) a.start.now a.out.now i h)
 
-made : (q : tie.After-add-increments) → tabulate (entry q).args.n (advanced (entry q).args.start.now (sums q)) ≡ next q
+made : (q : tie.After-add_increments) → tabulate (entry q).args.n (advanced (entry q).args.start.now (sums q)) ≡ next q
 made q =
     let a = (entry q).args in
     sym (tabulated a.n a.n (advanced a.start.now (sums q)) (next q) (length_round a.n (at a.n a.d.now) a.start.now a.out.now)
     (le_refl _) (λ i h. sym (made_cell q i h)))
 
 -- what industry takes of a sector is within its limit
-room : (q : tie.After-add-increments) (i : ℕ) → i < (entry q).args.n → taken (sums q) i ≤ production_limit
+room : (q : tie.After-add_increments) (i : ℕ) → i < (entry q).args.n → taken (sums q) i ≤ production_limit
 room q i h =
     let s = entry q in
     let a = s.args in
-    omega (arith, taken_is (summed q) i h, intermediate-within a.n (at a.n a.d.now) (cell a.out.now) i, s.pre.1.1.1.0 i h)
+    omega (arith, taken_is (summed q) i h, intermediate-within a.n (at a.n a.d.now) (cell a.out.now) i, s.requires.1.1.1.0 i h)
 
-add-increments-requires : tie.Need-add-increments-requires
+add-increments-requires : tie.Need-add_increments-requires
 add-increments-requires c κs =
     let s = c.before.before.before.before.before.before.before in
     ((s.requires.0.0, s.requires.0.3), ((s.requires.1.0.0, s.requires.1.0.1), carried_fits s.requires.1.0.2 s.requires.1.1.1.0))
 
 advance-requires : tie.Need-advance-requires
 advance-requires c κs =
-    let q = c.before.before.before.before.before in
+    let q = c.before.before.before.before in
     let s = entry q in
     let a = s.args in (
-      (s.pre.0.1, s.pre.0.2, s.pre.0.3),
+      (s.requires.0.1, s.requires.0.2, s.requires.0.3),
       (
         λ i h. (has_sum (summed q) i h, room q i h),
-        λ i h. (s.pre.1.1.0 i h, subst⁻¹ (λ (x : ℕ). cell a.out.now i ≤ x) (made_cell q i h) (s.pre.1.1.1.1 i h)),
+        λ i h. (s.requires.1.1.0 i h, subst⁻¹ (λ (x : ℕ). cell a.out.now i ≤ x) (made_cell q i h) (s.requires.1.1.1.1 i h)),
       ),
     )
 
 returns : tie.Need-returns
 returns c =
-    let v = c.before.before.before.before.advance in
-    let q = c.before.before.before.before.before.before.before.before.before.before in
+    let v = c.advance in
+    let q = c.before.before.before.before.before.before.before.before.before in
     let s = entry q in
     let a = s.args in
     let out = v.ensures.1.1.0 ∙ made q in
@@ -77,7 +77,7 @@ returns c =
         v.ensures.1.0,
         (
           out,
-          rw out (carried_on (summed q) (next q) _ s.pre.1.1.1.1 rose),
+          rw out (carried_on (summed q) (next q) _ s.requires.1.1.1.1 rose),
         ),
       ),
     )

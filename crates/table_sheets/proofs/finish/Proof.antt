@@ -7,7 +7,7 @@ returns : tie.Need-returns
 returns c =
     let f = c.before.before.before.before in
     let d = f.before.before.before.before in
-    (c.columns-within.ensures, (d.fill-domestic.ensures, f.fill-demand.ensures))
+    (c.columns_within.ensures, (d.fill_domestic.ensures, f.fill_demand.ensures))
 
 pub finish_spec : {M : Type 1} → statement M
 finish_spec =
