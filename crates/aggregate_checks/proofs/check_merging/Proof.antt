@@ -53,9 +53,9 @@ sized p = let z = passed p in (table_sizes (table p.before) [] [] z.0 z.1.0).0
 abbrev told : tie.In-Accepted-contents → tie.In-Accepted
 told r = r.before.before
 
-passed-2 : (r : tie.In-Accepted-contents) → let t = table (told r).before.before in AllPass (table_amounts t) × AllPass (balance_checks t)
+passed-2 : (r : tie.In-Accepted-contents) → let t = table (told r).before in AllPass (table_amounts t) × AllPass (balance_checks t)
 passed-2 r =
-    let q = (told r).before.before in
+    let q = (told r).before in
     all_pass_parts (table_amounts (table q)) (balance_checks (table q)) (answered_pass (contents q) r.check_contents-contents.ensures r.in-Accepted-contents.is)
 
 returns : tie.Need-returns-in_default
@@ -93,8 +93,8 @@ returns-3 c =
 check-groups-requires : tie.Need-check_groups-requires
 check-groups-requires c κs =
     let z = sized (told c) in
-    let m = table_amounts_lem (table (told c).before.before) (passed-2 c).0 in
-    ((z.few, z.columns-1 0 (lit< tt), z.columns-1 2 (lit< tt), z.columns-1 4 (lit< tt)), λ k. (m.columns-1 0 k, m.columns-1 2 k, m.columns-1 4 k))
+    let m = table_amounts_lem (table (told c).before) (passed-2 c).0 in
+    ((z.few, z.columns 0 (lit< tt), z.columns 2 (lit< tt), z.columns 4 (lit< tt)), λ k. (m.columns 0 k, m.columns 2 k, m.columns 4 k))
 
 pub check_merging_spec : {M : Type 1} → statement M
 check_merging_spec =

@@ -8,7 +8,7 @@ returns : tie.Need-returns-then-not-each_in_one
 returns c = rw (sym c.each_in_one.ensures ∙ c.if-not-each_in_one.true)
 
 returns-2 : tie.Need-returns
-returns-2 c = let e = c.before in rw (sym e.each_in_one.ensures ∙ e.if-not-each_in_one.false) c.words_fit.ensures
+returns-2 c = rw (sym c.each_in_one.ensures ∙ c.if-not-each_in_one.false) c.words_fit.ensures
 
 pub is_partition_spec : {M : Type 1} → statement M
 is_partition_spec = tie.close (tie.spec (λ c κs. search rules) returns (λ c κs. search rules) returns-2)

@@ -42,9 +42,8 @@ loop-again c =
 
 returns-3 : tie.Need-returns invariant-loop decreases-loop
 returns-3 c =
-    let p = c.before in
-    let a = p.args in
-    sym (all_passed (group_fits a.n) a.groups.now (λ k h. p.loop-k.invariant.1 k (omega (arith, c.loop-k-test.false))))
+    let a = c.args in
+    sym (all_passed (group_fits a.n) a.groups.now (λ k h. c.loop-k.invariant.1 k (omega (arith, c.loop-k-test.false))))
 
 pub words_fit_spec : {M : Type 1} → statement M
 words_fit_spec =

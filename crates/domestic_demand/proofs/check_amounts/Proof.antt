@@ -11,14 +11,11 @@ use Rattle.domestic_demand.proofs.check_amounts.Tie as tie
 
 returns : tie.Need-returns
 returns c =
-    let q3 = c.before in
-    let q2 = q3.before in
-    let q1 = q2.before in
-    let a = q1.args in
+    let a = c.args in
     let later = map (bounded 3 0 amount_limit) (a.final_demand.now ∷ a.exports.now ∷ a.adjustment.now ∷ []) in
     let qs = bounded 3 0 one a.m.now ∷ counted_on (length a.m.now) later in
     c.next_within.ensures (take 3 qs)
-    (q3.next_within-abroad.ensures (take 2 qs) (q2.next_within-demands.ensures (take 1 qs) q1.cells_within-shares.ensures))
+    (c.next_within-abroad.ensures (take 2 qs) (c.next_within-demands.ensures (take 1 qs) c.cells_within-shares.ensures))
     ∙ ap (λ (ps : List Check). verdict ps []) (counted_first one a.m.now later)
 
 pub check_amounts_spec : {M : Type 1} → statement M

@@ -21,8 +21,7 @@ accepted p = sym (ap report p.in-Accepted.is) ∙ p.check_demand-checked.ensures
 
 returns : tie.Need-returns-in-Refused
 returns c =
-    let k = c.before.before.before.before.before in
-    demanded (sym (ap report k.in-Refused.is) ∙ k.check_demand-checked.ensures) c.fill_zero.ensures
+    demanded (sym (ap report c.in-Refused.is) ∙ c.check_demand-checked.ensures) c.fill_zero.ensures
 
 fill-demand-requires : tie.Need-fill_demand-requires
 fill-demand-requires c κs =

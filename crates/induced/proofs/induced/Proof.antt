@@ -30,9 +30,7 @@ given p =
 
 returns : tie.Need-returns-in-Refused
 returns c =
-    let k = c.before.before.before.before.before.before.before.before.before in
-    let q = k.before.before in
-    let e = sym (ap report k.in-Refused.is) ∙ q.check_induced-checked.ensures in
+    let e = sym (ap report c.in-Refused.is) ∙ c.check_induced-checked.ensures in
     record { answer = e; values = c.fill_zero.ensures; imported = c.fill_zero-in-Refused.ensures }
 
 returns-2 : tie.Need-returns-in-Accepted
@@ -51,7 +49,7 @@ fill-induced-imports-requires c κs =
     let p = c.before.before.before.before.before in
     let g = given p in
     let s = g.sizes in
-    ((s.inputs, s.imports-1, s.demand, s.production, s.slices.1.0), (g.inputs_small, (g.imports_small, (g.demand_small, g.total))))
+    ((s.inputs, s.imports, s.demand, s.production, s.slices.1.0), (g.inputs_small, (g.imports_small, (g.demand_small, g.total))))
 
 pub induced_spec : {M : Type 1} → statement M
 induced_spec =

@@ -37,7 +37,7 @@ put-rest-requires c κs =
     room (entry p).requires (named p)
 
 returns : tie.Need-returns
-returns c = done (named c.before.before.before.before.before.before) c.before.before.put_rest.ensures
+returns c = done (named c.before.before.before.before.before.before) c.put_rest.ensures
 
 pub put_labelled_spec : {M : Type 1} → statement M
 put_labelled_spec = tie.close (tie.spec put-bytes-requires put-rest-requires (λ c. search rules) returns)

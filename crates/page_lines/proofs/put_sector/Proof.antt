@@ -4,7 +4,7 @@ use Rattle.page_lines.proofs.put_sector.Statement.{statement}
 use Rattle.page_lines.proofs.put_sector.Tie as tie
 
 returns : tie.Need-returns
-returns c = c.before.before.put_fields.ensures
+returns c = c.put_fields.ensures
 
 pub put_sector_spec : {M : Type 1} → statement M
 put_sector_spec =

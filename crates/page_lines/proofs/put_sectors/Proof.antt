@@ -19,26 +19,26 @@ entry p = p.before.before.before.before.before.before
 
 loop-holds : tie.Need-loop-i-init invariant-loop decreases-loop
 loop-holds c =
-    let a = c.before.before.before.before.before.args in
+    let a = c.args in
     (omega arith, no_lines (sector_line a.demand.now a.production.now a.value.now a.imports.now) a.at a.out.now)
 
 put-sector-requires : tie.Need-put_sector-next-requires invariant-loop decreases-loop
 put-sector-requires c κs =
     let p = c.before.before in
     let s = entry p in
-    let here = c.before.loop-i-test.true in
+    let here = c.loop-i-test.true in
     let lengths = s.requires.0 in
     ((omega arith, omega arith, omega arith, omega arith), line_room p.loop-i.invariant.1 s.args.n here s.requires.1)
 
 loop-again : tie.Need-loop-i-preserved invariant-loop decreases-loop
-loop-again c = (omega arith, line_more c.before.before.before.before.before.loop-i.invariant.1 c.before.before.put_sector-next.ensures)
+loop-again c = (omega arith, line_more c.loop-i.invariant.1 c.put_sector-next.ensures)
 
 same_length : tie.Need-shape_of-out invariant-loop decreases-loop
-same_length c = kept (line_left c.before.loop-i.invariant.1)
+same_length c = kept (line_left c.loop-i.invariant.1)
 
 returns : tie.Need-returns invariant-loop decreases-loop
 returns c =
-    let l = c.before.loop-i in
+    let l = c.loop-i in
     lines_done l.invariant.1 (entry c.before).args.n l.invariant.0 (omega arith)
 
 pub put_sectors_spec : {M : Type 1} → statement M

@@ -65,7 +65,7 @@ returns : tie.Need-returns
 unfolding sheet
 returns c =
     let q = c.before.before.before.before.before.before in
-    let w = done (listed q) c.before.before.put_rounds.ensures in
+    let w = done (listed q) c.put_rounds.ensures in
     (w.0 ∙ zero-add (length (whole (entry (before-sectors q)))), w.1)
 
 pub put_sheet_spec : {M : Type 1} → statement M

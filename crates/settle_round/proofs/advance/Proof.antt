@@ -45,13 +45,12 @@ increment p k = next p k - cell (entry p).args.out.now k
 
 loop-holds : tie.Need-loop-i-init invariant-loop decreases-loop
 loop-holds c =
-    let s = c.before.before.before.before in
     record {
       within = omega arith;
-      outs = s.requires.0.1;
-      lengthened = s.requires.0.2;
-      amounts = over_none s.args.out.now _;
-      differences = agree_none s.args.increments.now _;
+      outs = c.requires.0.1;
+      lengthened = c.requires.0.2;
+      amounts = over_none c.args.out.now _;
+      differences = agree_none c.args.increments.now _;
       unchanged = refl;
       bound = below_none _;
     }

@@ -17,7 +17,7 @@ use Rattle.settle_round.proofs.turn.Statement.{statement}
 use Rattle.settle_round.proofs.turn.Tie as tie
 
 abbrev entry : tie.After-add_increments → tie.Start
-entry q = q.before.before.before.before.before.before.before.before
+entry q = q.before.before.before.before.before.before.before
 
 abbrev sums : tie.After-add_increments → List ℕ
 sums q = q.add_increments.new.sums
@@ -49,8 +49,7 @@ room q i h =
 
 add-increments-requires : tie.Need-add_increments-requires
 add-increments-requires c κs =
-    let s = c.before.before.before.before.before.before.before in
-    ((s.requires.0.0, s.requires.0.3), ((s.requires.1.0.0, s.requires.1.0.1), carried_fits s.requires.1.0.2 s.requires.1.1.1.0))
+    ((c.requires.0.0, c.requires.0.3), ((c.requires.1.0.0, c.requires.1.0.1), carried_fits c.requires.1.0.2 c.requires.1.1.1.0))
 
 advance-requires : tie.Need-advance-requires
 advance-requires c κs =

@@ -34,7 +34,7 @@ share-small : (c : tie.In-loop-k invariant-loop decreases-loop) → let a = (ent
 share-small c = let s = entry c.before in s.requires.1.1 (c.loop-k.k / s.args.n) (in_column c).0
 
 mul-cells : tie.Need-overflow_mul-cells invariant-loop decreases-loop
-mul-cells c = let s = c.before.before.before in omega (arith, mul-le-mul s.requires.0.1 s.requires.0.1)
+mul-cells c = omega (arith, mul-le-mul c.requires.0.1 c.requires.0.1)
 
 portion-of-requires : tie.Need-portion_of-requires invariant-loop decreases-loop
 portion-of-requires c κs =

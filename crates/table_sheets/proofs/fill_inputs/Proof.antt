@@ -27,7 +27,7 @@ in_row :
 in_row c = let s = entry c.before.before in (place_column s.args.n c.loop-k.k s.requires.0.0, s.requires.0.1)
 
 mul-cells : tie.Need-overflow_mul-cells invariant-loop decreases-loop
-mul-cells c = let s = c.before.before.before in omega (arith, mul-le-mul s.requires.0.1 s.requires.0.1)
+mul-cells c = omega (arith, mul-le-mul c.requires.0.1 c.requires.0.1)
 
 rem-share-of : tie.Need-nonzero_rem-k invariant-loop decreases-loop
 rem-share-of c = (entry c.before.before).requires.0.0

@@ -5,9 +5,7 @@ use Rattle.table_sheets.proofs.finish.Tie as tie
 
 returns : tie.Need-returns
 returns c =
-    let f = c.before.before.before.before in
-    let d = f.before.before.before.before in
-    (c.columns_within.ensures, (d.fill_domestic.ensures, f.fill_demand.ensures))
+    (c.columns_within.ensures, (c.fill_domestic.ensures, c.fill_demand.ensures))
 
 pub finish_spec : {M : Type 1} → statement M
 finish_spec =
