@@ -34,10 +34,8 @@ subtract-requires c κs =
 
 returns : tie.Need-returns-in-Refused
 returns c =
-    let k = c.before.before.before.before in
-    let q = k.before.before in
-    let a = (entry q).args in
-    let e = sym (ap report k.in-Refused.is) ∙ q.check_production-checked.ensures in
+    let a = c.args in
+    let e = sym (ap report c.in-Refused.is) ∙ c.check_production-checked.ensures in
     let o = c.fill_zero_signed.ensures in
     implied a.n a.d.now a.production.now a.out.now e o
 
