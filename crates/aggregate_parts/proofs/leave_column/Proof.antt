@@ -9,20 +9,19 @@ use Rattle.aggregate_parts.proofs.leave_column.Statement.{statement}
 use Rattle.aggregate_parts.proofs.leave_column.Tie as tie
 
 -- where the answer is that the call was accepted
-accepted : (p : tie.After-enum-told) → (report p.before.before.before.before.before.args.answer).accepted ≡ true
-accepted p = ap (λ (a : Answer). (report a).accepted) p.enum_told.given.1
+accepted : (p : tie.In-Accepted) → (report p.args.answer).accepted ≡ true
+accepted p = ap (λ (a : Answer). (report a).accepted) p.in-Accepted.is
 
-returns : tie.Need-returns
-returns c = rw c.before.before.before.before.enum_told.given.1 c.before.before.fill-column.ensures
+returns : tie.Need-returns-in-Accepted
+returns c = rw c.in-Accepted.is c.fill_column.ensures
 
-returns-2 : tie.Need-returns-2
-returns-2 c = rw c.before.before.before.before.enum-told2.given.1 c.before.before.fill-zero.ensures
+returns-2 : tie.Need-returns
+returns-2 c = rw c.in_default.is c.fill_zero.ensures
 
-fill-column-requires : tie.Need-fill-column-requires
+fill-column-requires : tie.Need-fill_column-requires
 fill-column-requires c κs =
-    let s = c.before.before.before.before.before.before in
     let ok = accepted c.before in
-    (s.requires.0 ok, λ k _. omega (arith, s.requires.1 ok k))
+    (c.requires.0 ok, λ k _. omega (arith, c.requires.1 ok k))
 
 pub leave_column_spec : {M : Type 1} → statement M
 leave_column_spec =

@@ -8,20 +8,19 @@ use Rattle.aggregate_parts.proofs.leave_sizes.Statement.{statement}
 use Rattle.aggregate_parts.proofs.leave_sizes.Tie as tie
 
 -- where the answer is that the call was accepted
-accepted : (p : tie.After-enum-told) → (report p.before.before.before.before.args.answer).accepted ≡ true
-accepted p = ap (λ (a : Answer). (report a).accepted) p.enum_told.given.1
+accepted : (p : tie.In-Accepted) → (report p.args.answer).accepted ≡ true
+accepted p = ap (λ (a : Answer). (report a).accepted) p.in-Accepted.is
 
-returns : tie.Need-returns
-returns c = rw c.before.before.before.before.enum_told.given.1 c.before.before.fill-sizes.ensures
+returns : tie.Need-returns-in-Accepted
+returns c = rw c.in-Accepted.is c.fill_sizes.ensures
 
-returns-2 : tie.Need-returns-2
-returns-2 c = rw c.before.before.before.before.enum-told2.given.1 c.before.before.fill-zero.ensures
+returns-2 : tie.Need-returns
+returns-2 c = rw c.in_default.is c.fill_zero.ensures
 
-fill-sizes-requires : tie.Need-fill-sizes-requires
+fill-sizes-requires : tie.Need-fill_sizes-requires
 fill-sizes-requires c κs =
-    let s = c.before.before.before.before.before in
     let ok = accepted c.before in
-    s.requires ok
+    c.requires ok
 
 pub leave_sizes_spec : {M : Type 1} → statement M
 leave_sizes_spec =

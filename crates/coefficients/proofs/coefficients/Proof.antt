@@ -9,21 +9,14 @@ use Rattle.coefficients.proofs.coefficients.Tie as tie
 
 returns : tie.Need-returns
 returns c =
-    let f = c.before.before in
-    let d = f.before.before.before.before in
-    let m = d.before.before.before.before in
-    let v = m.before.before.before.before in
-    let a = v.before.before.before.before in
-    let q = a.before.before.before.before.before.before.before.before.before.before.before.before in
-    let e = q.fill-sheets.ensures in
-    let r = report q.fill-sheets.result in
-    let l = q.fill-sheets.auto.1.1.1.1.1.1.1.1 in
+    let e = c.fill_sheets-answer.ensures in
+    let r = report c.fill_sheets-answer.result in
     derived _ _ _ _ _ _ _ _ e.0
-    (a.output.ensures ∙ output_from r l.0 (λ ok. (e.1 ok).0))
-    (v.output2.ensures ∙ output_from r l.1.0 (λ ok. (e.1 ok).1))
-    (m.output3.ensures ∙ output_from r l.1.1.0 (λ ok. (e.1 ok).2))
-    (d.output4.ensures ∙ output_from r l.1.1.1.0 (λ ok. (e.1 ok).3))
-    (f.output5.ensures ∙ output_from r l.1.1.1.1.0 (λ ok. (e.1 ok).4))
+    (c.output.ensures ∙ output_from r c.fill_sheets-answer.auto.a (λ ok. (e.1 ok).0))
+    (c.output-2.ensures ∙ output_from r c.fill_sheets-answer.auto.v (λ ok. (e.1 ok).1))
+    (c.output-3.ensures ∙ output_from r c.fill_sheets-answer.auto.m (λ ok. (e.1 ok).2))
+    (c.output-4.ensures ∙ output_from r c.fill_sheets-answer.auto.d (λ ok. (e.1 ok).3))
+    (c.output-5.ensures ∙ output_from r c.fill_sheets-answer.auto.f (λ ok. (e.1 ok).4))
 
 pub coefficients_spec : {M : Type 1} → statement M
 coefficients_spec =

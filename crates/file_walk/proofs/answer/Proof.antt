@@ -10,17 +10,15 @@ use Rattle.file_walk.proofs.Loops.{cleared_refused, counted}
 use Rattle.file_walk.proofs.answer.Statement.{statement}
 use Rattle.file_walk.proofs.answer.Tie as tie
 
-returns : tie.Need-returns
+returns : tie.Need-returns-in-Refused
 returns c =
-    let s = c.before.before.before.before.before.before.before.before in
     λ file marks h _.
-    cleared_refused (reading file) _ _ _ (subst (λ (t : Walked). Ends (reading file) t s.args.cells.now marks) c.before.before.before.before.before.walked.given.1 h)
-    (c.before.before.fill-zero.ensures ∙ ap (λ (k : ℕ). replicate k 0) s.requires)
+    cleared_refused (reading file) _ _ _ (subst (λ (t : Walked). Ends (reading file) t c.args.cells.now marks) c.in-Refused.is h)
+    (c.fill_zero.ensures ∙ ap (λ (k : ℕ). replicate k 0) c.requires)
 
-returns-2 : tie.Need-returns-2
+returns-2 : tie.Need-returns-in-Table
 returns-2 c =
-    let s = c.before.before.before.before in
-    λ file marks h. counted file _ _ _ marks (subst (λ (t : Walked). Ends (reading file) t s.args.cells.now marks) c.before.walked2.given.1 h)
+    λ file marks h. counted file _ _ _ marks (subst (λ (t : Walked). Ends (reading file) t c.args.cells.now marks) c.in-Table.is h)
 
 pub answer_spec : {M : Type 1} → statement M
 answer_spec = tie.close (tie.spec (λ c. search rules) (λ c κs. search rules) (λ c. search rules) (λ c. search rules) returns returns-2)

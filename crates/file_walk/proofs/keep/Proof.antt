@@ -12,9 +12,9 @@ cell s = record { word = s.args.word; position = s.args.position; amount = s.arg
 returns : tie.Need-returns
 returns c =
     let s = c.before.before.before.before.before.before.before.before.before.before in
-    let m = c.before.before.before.before.before.before.mark in
-    let d = c.before.before.store in
-    λ es k. keeps s.args.n es s.args.cells.now s.args.marks.now d.new.0 m.new.0 (cell s) m.ensures (d.ensures es) (m.auto.0 ∙ s.requires.2) k
+    let m = c.mark in
+    let d = c.store in
+    λ es k. keeps s.args.n es s.args.cells.now s.args.marks.now d.new.cells m.new.marks (cell s) m.ensures (d.ensures es) (m.auto.marks ∙ s.requires.2) k
 
 pub keep_spec : {M : Type 1} → statement M
 keep_spec = tie.close (tie.spec

@@ -7,31 +7,29 @@ use Rattle.model.specs.File.{cell_limit, word_limit}
 use Rattle.file_walk.proofs.read_flat.Statement.{statement}
 use Rattle.file_walk.proofs.read_flat.Tie as tie
 
-abbrev start : tie.After-walk-file → tie.Start
+abbrev start : tie.After-walk_file-walked → tie.Start
 start w = w.before.before.before.before.before.before.before.before.before.before
 
-walk-file-requires : tie.Need-walk-file-requires
+walk-file-requires : tie.Need-walk_file-walked-requires
 walk-file-requires c κs =
-    let s = c.before.before.before.before.before.before.before.before.before in
-    (s.requires.0, c.before.before.before.before.fill-zero.ensures ∙ ap (λ (k : ℕ). replicate k 0) s.requires.1)
+    (c.requires.0, c.fill_zero.ensures ∙ ap (λ (k : ℕ). replicate k 0) c.requires.1)
 
 -- the walk leaves as many words
-words : (w : tie.After-walk-file) → length w.walk-file.new.1.1.0 ≡ word_limit
-words w = w.walk-file.auto.1.1.0 ∙ w.before.before.before.before.before.fill-zero.auto.0 ∙ (start w).requires.1
+words : (w : tie.After-walk_file-walked) → length w.walk_file-walked.new.marks ≡ word_limit
+words w = w.walk_file-walked.auto.marks ∙ w.fill_zero.auto.s ∙ w.requires.1
 
-take-total-requires : tie.Need-take-total-requires
+take-total-requires : tie.Need-take_total-named-requires
 take-total-requires c κs = words c.before.before.before.before.before
 
 answer-requires : tie.Need-answer-requires
 answer-requires c κs =
-    let w = c.before.before.before.before.before.before.before.before.before in
-    w.walk-file.auto.1.0 ∙ ap length (start w).requires.0 ∙ length-replicate {A = ℕ} cell_limit 0
+    c.walk_file-walked.auto.cells ∙ ap length c.requires.0 ∙ length-replicate {A = ℕ} cell_limit 0
 
 returns : tie.Need-returns
 returns c =
-    let t = c.before.before.before.before.before.before.take-total.ensures in
+    let t = c.take_total-named.ensures in
     let w = c.before.before.before.before.before.before.before.before.before.before.before.before in
-    let d = c.before.before.answer.ensures (start w).args.file.now _ w.walk-file.ensures t.0 in
+    let d = c.answer.ensures w.args.file.now _ w.walk_file-walked.ensures t.0 in
     (d.0, d.1, t.1 ∙ ap (λ (k : ℕ). replicate k 0) (words w))
 
 pub read_flat_spec : {M : Type 1} → statement M

@@ -8,21 +8,18 @@ use Rattle.file_walk.proofs.store.Statement.{statement}
 use Rattle.file_walk.proofs.store.Tie as tie
 
 -- a cell of x lies in its 1,600
-low : (c : tie.Then1) → let a = c.before.args in a.word * a.n + a.position < sheet_limit
+low : (c : tie.Then-word-lt-SECTORS) → let a = c.args in a.word * a.n + a.position < sheet_limit
 low c =
-    let s = c.before in
-    let p = s.requires.2.place in
-    omega (arith, s.requires.0, row_start s.args.n s.args.word s.requires.0 (s.requires.2.row c.if1.true))
+    let p = c.requires.2.place in
+    omega (arith, c.requires.0, row_start c.args.n c.args.word c.requires.0 (c.requires.2.row c.if-word-lt-SECTORS.true))
 
-returns : tie.Need-returns
+returns : tie.Need-returns-then-word-lt-SECTORS
 returns c =
-    let s = c.before in
-    λ es h. store_flow s.args.n s.requires.0 (record { word = s.args.word; position = s.args.position; amount = s.args.amount }) s.requires.2 es s.args.cells.now h c.if1.true
+    λ es h. store_flow c.args.n c.requires.0 (record { word = c.args.word; position = c.args.position; amount = c.args.amount }) c.requires.2 es c.args.cells.now h c.if-word-lt-SECTORS.true
 
-returns-2 : tie.Need-returns-2
+returns-2 : tie.Need-returns
 returns-2 c =
-    let s = c.before in
-    λ es h. store_column s.args.n s.requires.0 (record { word = s.args.word; position = s.args.position; amount = s.args.amount }) s.requires.2 es s.args.cells.now h c.if1.false
+    λ es h. store_column c.args.n c.requires.0 (record { word = c.args.word; position = c.args.position; amount = c.args.amount }) c.requires.2 es c.args.cells.now h c.if-word-lt-SECTORS.false
 
 pub store_spec : {M : Type 1} → statement M
 store_spec =

@@ -9,22 +9,21 @@ use Rattle.file_walk.proofs.Loops.{keeps_none}
 use Rattle.file_walk.proofs.walk_file.Statement.{statement}
 use Rattle.file_walk.proofs.walk_file.Tie as tie
 
-opened : (c : tie.After-open) (t : Walked) → c.open.result ≡ t → Opened c.before.before.before.before.args.file.now t
-opened c t e = subst (Opened c.before.before.before.before.args.file.now) e c.open.ensures
+opened : (c : tie.After-open-opening) (t : Walked) → c.open-opening.result ≡ t → Opened c.args.file.now t
+opened c t e = subst (Opened c.args.file.now) e c.open-opening.ensures
 
 walk-requires : tie.Need-walk-requires
 walk-requires c κs =
-    let s = c.before.before.before.before.before.before.before.before.before in
-    let o = opened c.before.before.before.before.before _ c.before.before.before.opening2.given.1 in
-    (o.1, o.2, keeps_none _ s.args.cells.now s.args.marks.now s.requires.0 s.requires.1)
+    let o = opened c.before.before.before _ c.in-Table.is in
+    (o.1, o.2, keeps_none _ c.args.cells.now c.args.marks.now c.requires.0 c.requires.1)
 
-returns : tie.Need-returns
-returns c = opened c.before.before.before _ c.before.opening.given.1
+returns : tie.Need-returns-in-Refused
+returns c = opened c.before _ c.in-Refused.is
 
-returns-2 : tie.Need-returns-2
+returns-2 : tie.Need-returns-in-Table
 returns-2 c =
-    let w = c.before.before.before.before.walk in
-    subst (λ (o : Reading). Ends o w.result w.new.1.1.0 w.new.1.1.1.0) (sym (opened c.before.before.before.before.before.before.before.before.before.before _ c.before.before.before.before.before.before.before.before.opening2.given.1).0) w.ensures
+    let w = c.walk in
+    subst (λ (o : Reading). Ends o w.result w.new.cells w.new.marks) (sym (opened c.before.before.before.before.before.before.before.before _ c.in-Table.is).0) w.ensures
 
 pub walk_file_spec : {M : Type 1} → statement M
 walk_file_spec =

@@ -16,10 +16,10 @@ zeros = replicate sector_limit 0
 part : (s : tie.Start) → length (take s.args.n zeros) ≡ s.args.n
 part s = length-take-le s.args.n zeros s.requires.0.0.few
 
-settle-both-requires : tie.Need-settle-both-requires
+settle-both-requires : tie.Need-settle_both-requires
 settle-both-requires c κs = let s = c.before.before.before.before.before.before.before.before in (s.requires.0, (part s, s.requires.1.0, s.requires.1.1))
 
-slice : tie.Need-slice-aggregate-settle-both
+slice : tie.Need-slice_bounds-settle_both-end
 slice c = sym (part c.before.before.before.before.before.before)
 
 pub compare_spec : {M : Type 1} → statement M

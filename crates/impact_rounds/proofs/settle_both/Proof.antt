@@ -8,57 +8,56 @@ use Rattle.impact_rounds.proofs.Comparing.{first_stops, second_stops, both_order
 use Rattle.impact_rounds.proofs.settle_both.Statement.{statement}
 use Rattle.impact_rounds.proofs.settle_both.Tie as tie
 
-abbrev entry : tie.After-settle → tie.Start
+abbrev entry : tie.After-settle-earlier → tie.Start
 entry q = q.before.before.before.before.before.before.before.before.before
 
 -- where the first demand has settled, and after the second was
-abbrev first : tie.After-earlier → tie.After-settle
-first p = p.before.before.before.before.before.before
+abbrev first : tie.In-Settled-2 → tie.After-settle-earlier
+first p = p.before.before.before.before.before
 
-abbrev told : tie.After-settle2 → tie.After-earlier
-told p = p.before.before.before.before
+abbrev told : tie.After-settle-later → tie.In-Settled-2
+told p = p.before.before.before
 
-abbrev second : tie.After-later → tie.After-settle2
-second p = p.before.before.before.before.before.before
+abbrev second : tie.In-Settled-later-2 → tie.After-settle-later
+second p = p.before.before.before.before.before
 
 -- both settle
-returns-3 : tie.Need-returns-3
+returns-3 : tie.Need-returns
 returns-3 c =
-    let o = c.before.before.before.before.before.before.before in
+    let o = c.before.before.before.before.before in
     let p = second o in
     let q = first (told p) in
-    let a = (entry q).args in
-    both_settle_lem a.n (at a.n a.d.now) a.before.now a.after.now a.budget q.settle.ensures (told p).earlier.given.1
-    p.settle2.ensures o.later.given.1 c.larger.ensures c.before.before.before.subtract.ensures
+    let a = q.args in
+    both_settle_lem a.n (at a.n a.d.now) a.now a.after.now a.budget q.settle-earlier.ensures (told p).in-Settled.is
+    p.settle-later.ensures o.in-Settled-later.is c.larger.ensures c.subtract.ensures
 
 -- the second does not, and the first does not
-returns-2 : tie.Need-returns-2
+returns-2 : tie.Need-returns-in_default-later
 returns-2 c =
-    let p = c.before.before.before.before.before.before in
+    let p = c.before.before.before.before.before in
     let q = first (told p) in
-    let a = (entry q).args in
-    second_stops a.n (at a.n a.d.now) a.before.now a.after.now a.budget q.settle.ensures (told p).earlier.given.1
-    p.settle2.ensures c.enum-told2.given.1
+    let a = q.args in
+    second_stops a.n (at a.n a.d.now) a.now a.after.now a.budget q.settle-earlier.ensures (told p).in-Settled.is
+    p.settle-later.ensures c.in_default-later.is
 
-returns : tie.Need-returns
+returns : tie.Need-returns-in_default
 returns c =
-    let q = c.before.before.before.before.before.before.before.before.before.before in
-    let a = (entry q).args in
-    first_stops a.n (at a.n a.d.now) a.before.now a.after.now a.budget q.settle.ensures
-    c.before.before.before.before.enum_told.given.1
-    (c.before.before.fill-zero.ensures ∙ ap (λ (k : ℕ). replicate k 0) (entry q).requires.1.1)
+    let a = c.args in
+    first_stops a.n (at a.n a.d.now) a.now a.after.now a.budget c.settle-earlier.ensures
+    c.in_default.is
+    (c.fill_zero.ensures ∙ ap (λ (k : ℕ). replicate k 0) c.requires.1.1)
 
 subtract-requires : tie.Need-subtract-requires
 subtract-requires c κs =
-    let o = c.before.before.before in
+    let o = c.before in
     let p = second o in
     let q = first (told p) in
     let s = entry q in
     let a = s.args in (
-      q.settle.kept.1.1.1.1.0 ∙ s.pre.1.0,
-      p.settle2.kept.1.1.1.1.0 ∙ s.pre.1.1,
-      both_ordered a.n (at a.n a.d.now) a.before.now a.after.now a.budget q.settle.ensures (told p).earlier.given.1
-          p.settle2.ensures o.later.given.1 s.pre.0.2,
+      q.settle-earlier.auto.out ∙ s.requires.1.0,
+      p.settle-later.auto.out ∙ s.requires.1.1,
+      both_ordered a.n (at a.n a.d.now) a.now a.after.now a.budget q.settle-earlier.ensures (told p).in-Settled.is
+          p.settle-later.ensures o.in-Settled-later.is s.requires.0.2,
     )
 
 pub settle_both_spec : {M : Type 1} → statement M

@@ -32,17 +32,17 @@ demand-part : (s : tie.Start) (v : ℕ) → length (take s.args.n (set zeros s.a
 demand-part s v =
     length-take-le s.args.n (set zeros s.args.j v) (subst⁻¹ (λ (k : ℕ). s.args.n ≤ k) (length-set zeros s.args.j v) s.requires.0.few)
 
-abbrev entry : tie.After-settle → tie.Start
+abbrev entry : tie.After-settle-outcome → tie.Start
 entry q = q.before.before.before.before.before.before
 
 -- what the rounds leave
-abbrev amounts : tie.After-settle → List ℕ
-amounts q = q.settle.new.1.1.1.1.0
+abbrev amounts : tie.After-settle-outcome → List ℕ
+amounts q = q.settle-outcome.new.out
 
-amounts-length : (q : tie.After-settle) → length (amounts q) ≡ (entry q).args.n
-amounts-length q = q.settle.auto.1.1.1.1.0 ∙ part (entry q)
+amounts-length : (q : tie.After-settle-outcome) → length (amounts q) ≡ (entry q).args.n
+amounts-length q = q.settle-outcome.auto.out ∙ part (entry q)
 
-settle-requires : tie.Need-settle-requires
+settle-requires : tie.Need-settle-outcome-requires
 settle-requires c κs =
     let s = c.before.before.before.before.before in (
       rows_settleable s.requires.0 _ (demand-part s _)
@@ -52,31 +52,31 @@ settle-requires c κs =
       part s,
     )
 
-amounts-part : tie.Need-array-share-prefix-amounts
+amounts-part : tie.Need-slice_bounds-amounts-end-2
 amounts-part c =
     let q = c.before.before in
-    subst⁻¹ (λ (k : ℕ). (entry q).args.n ≤ k) (length_front zeros (amounts q) (entry q).args.n q.settle.auto.1.1.1.1.0) (entry q).requires.0.few
+    subst⁻¹ (λ (k : ℕ). q.args.n ≤ k) (length_front zeros (amounts q) q.args.n q.settle-outcome.auto.out) q.requires.0.few
 
-stored : (q : tie.After-settle) → let n = (entry q).args.n in take n (amounts q ++ drop n zeros) ≡ amounts q
-stored q = take_at (amounts q) (drop (entry q).args.n zeros) (entry q).args.n (amounts-length q)
+stored : (q : tie.After-settle-outcome) → let n = (entry q).args.n in take n (amounts q ++ drop n zeros) ≡ amounts q
+stored q = take_at (amounts q) (drop q.args.n zeros) q.args.n (amounts-length q)
 
-put-column-requires : tie.Need-put-column-requires
+put-column-requires : tie.Need-put_column-requires
 put-column-requires c κs =
     let q = c.before.before.before.before in
-    ((entry q).requires.1, ap length (stored q) ∙ amounts-length q, (entry q).requires.2)
+    (q.requires.1, ap length (stored q) ∙ amounts-length q, q.requires.2)
 
 returns : tie.Need-returns
 returns c =
     let q = c.before.before.before.before.before.before.before in
-    let p = c.before.before.put_column in
-    let a = (entry q).args in
+    let p = c.put_column in
+    let a = q.args in
     let m = at a.n a.d.now in
-    let result = report_rounds q.settle.result in
+    let result = report_rounds q.settle-outcome.result in
     let e = demand (entry q) in
     record {
-      answer = q.settle.ensures.answer ∙ ap (λ (u : List ℕ). nine a.n m u a.budget) e;
+      answer = q.settle-outcome.ensures.answer ∙ ap (λ (u : List ℕ). nine a.n m u a.budget) e;
       column = λ i h. p.ensures.0 i h
-          ∙ ap (λ (l : List ℕ). cell l i) (stored q ∙ q.settle.ensures.outputs ∙ ap (λ (u : List ℕ). output result a.n (settled a.n m u a.budget)) e);
+          ∙ ap (λ (l : List ℕ). cell l i) (stored q ∙ q.settle-outcome.ensures.outputs ∙ ap (λ (u : List ℕ). output result a.n (settled a.n m u a.budget)) e);
       kept = p.ensures.1;
     }
 

@@ -10,18 +10,15 @@ use Rattle.page_sheets.proofs.fill_coefficients.Tie as tie
 
 part-coefficients-end : tie.Need-slice-bounds-coefficients-end
 part-coefficients-end c =
-    let s = c.before.before.before.before.before.before in
-    let square : s.args.n * s.args.n ≤ sheet_limit = mul-le-mul s.requires.0.0 s.requires.0.0 in
-    omega (arith, square, s.requires.0.1)
+    let square : c.args.n * c.args.n ≤ sheet_limit = mul-le-mul c.requires.0.0 c.requires.0.0 in
+    omega (arith, square, c.requires.0.1)
 
 returns : tie.Need-returns
 returns c =
-    let q = c.before.before.before.before.before.before.before.before.before.before in
-    let s = c.before.before.before.before.before.before.before.before.before.before.before.before.before.before.before.before.before.before.before.before.before.before.before.before.before.before.before.before.before in
-    let n = s.args.n in
-    let cells = s.args.cells.now in
-    let l = s.requires.1 in
-    table_cut n cells (sheets (lent_table n cells) l.0 l.3 l.1 l.2 l.4 q.coefficients.ensures)
+    let n = c.args.n in
+    let cells = c.args.cells.now in
+    let l = c.requires.1 in
+    table_cut n cells (sheets (lent_table n cells) l.0 l.3 l.1 l.2 l.4 c.coefficients.ensures)
 
 pub fill_coefficients_spec : {M : Type 1} → statement M
 fill_coefficients_spec =

@@ -11,27 +11,27 @@ use Rattle.production.proofs.check_start.Statement.{statement}
 use Rattle.production.proofs.check_start.Tie as tie
 
 -- questions 1, 2 and 7 of the call's slices, what was answered to them, and question 8
-abbrev entry : tie.After-check-domestic → tie.Start
+abbrev entry : tie.After-check_domestic-matrix → tie.Start
 entry q = q.before.before.before.before
 
-abbrev lent : tie.After-check-domestic → List ℕ
-lent q = (entry q).args.out-len ∷ (entry q).args.work-len ∷ []
+abbrev lent : tie.After-check_domestic-matrix → List ℕ
+lent q = q.args.out_len ∷ q.args.work_len ∷ []
 
-abbrev asked : tie.After-check-domestic → List Check
-asked q = let a = (entry q).args in matrix_checks a.n a.d.now [] (length a.start.now ∷ lent q)
+abbrev asked : tie.After-check_domestic-matrix → List Check
+asked q = let a = q.args in matrix_checks a.n a.d.now [] (length a.start.now ∷ lent q)
 
-abbrev last : tie.After-check-domestic → List Check
-last q = let a = (entry q).args in bounded 8 0 a.limit a.start.now ∷ []
+abbrev last : tie.After-check_domestic-matrix → List Check
+last q = let a = q.args in bounded 8 0 a.limit a.start.now ∷ []
 
-returns : tie.Need-returns
+returns : tie.Need-returns-in_default
 returns c =
-    let q = c.before.before in
-    record { answer = answered_end (asked q) q.check-domestic.ensures (last q) c.enum-told2.given.1 }
+    let q = c.before in
+    record { answer = answered_end (asked q) q.check_domestic-matrix.ensures (last q) c.in_default.is }
 
-returns-2 : tie.Need-returns-2
+returns-2 : tie.Need-returns
 returns-2 c =
-    let q = c.before.before.before in
-    record { answer = c.cells-within.ensures ∙ answered_on (asked q) q.check-domestic.ensures (last q) [] c.before.enum_told.given.1 }
+    let q = c.before.before in
+    record { answer = c.cells_within.ensures ∙ answered_on (asked q) q.check_domestic-matrix.ensures (last q) [] c.in-Accepted.is }
 
 pub check_start_spec : {M : Type 1} → statement M
 check_start_spec =

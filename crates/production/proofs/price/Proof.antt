@@ -14,36 +14,36 @@ use Rattle.production.proofs.Solving.{Called, called_stop, passed, called_on}
 use Rattle.production.proofs.price.Statement.{statement}
 use Rattle.production.proofs.price.Tie as tie
 
-abbrev entry : tie.After-check-start → tie.Start
+abbrev entry : tie.After-check_start-checked → tie.Start
 entry q = q.before.before.before.before.before
 
 -- what is answered and left keeps the promises
-kept : (q : tie.After-check-start) {r : Report} {out work : List ℕ} → let a = (entry q).args in
+kept : (q : tie.After-check_start-checked) {r : Report} {out work : List ℕ} → let a = (entry q).args in
     Called a.n a.d.now (transposed (at a.n a.d.now)) rise_limit a.w.now a.budget (length a.out.now) (length a.work.now) r out work
     → Priced a.n a.d.now a.w.now a.budget a.out.now a.work.now r out work
 unfolding price_report
 kept q e =
-    let a = (entry q).args in
+    let a = q.args in
     priced a.n a.d.now a.w.now a.budget a.out.now a.work.now e.answer e.outputs e.cleared
 
-settle-columns-requires : tie.Need-settle-columns-requires
+settle-columns-requires : tie.Need-settle_columns-requires
 settle-columns-requires c κs =
-    let s = passed c.before.before.before.before.check-start.ensures c.before.before.enum_told.given.1 in
+    let s = passed c.check_start-checked.ensures c.in-Accepted.is in
     ((s.matrix, s.start, s.slices.0, s.slices.1.0), λ i h. le_trans (s.small i h) (omega arith))
 
-returns-2 : tie.Need-returns-2
+returns-2 : tie.Need-returns-in-Accepted
 returns-2 c =
     let p = c.before.before.before.before.before.before.before in
-    let q = p.before.before in
-    let a = (entry q).args in
-    kept q (called_on q.check-start.ensures (transposed (at a.n a.d.now)) a.budget p.enum_told.given.1 c.before.before.before.before.settle-columns.ensures)
+    let q = p.before in
+    let a = q.args in
+    kept q (called_on q.check_start-checked.ensures (transposed (at a.n a.d.now)) a.budget p.in-Accepted.is c.settle_columns.ensures)
 
-returns : tie.Need-returns
+returns : tie.Need-returns-in-Refused
 returns c =
-    let k = c.before.before.before.before.before.before.before.before in
-    let q = k.before.before in
-    let a = (entry q).args in
-    kept q (called_stop q.check-start.ensures (transposed (at a.n a.d.now)) a.budget k.checked.given.1 c.before.before.before.before.refuse.ensures)
+    let k = c.before.before.before.before.before.before.before in
+    let q = k.before in
+    let a = q.args in
+    kept q (called_stop q.check_start-checked.ensures (transposed (at a.n a.d.now)) a.budget k.in-Refused.is c.refuse.ensures)
 
 pub price_spec : {M : Type 1} → statement M
 price_spec =

@@ -13,37 +13,36 @@ use Rattle.production.proofs.Solving.{Called, called_stop, passed, called_on}
 use Rattle.production.proofs.production.Statement.{statement}
 use Rattle.production.proofs.production.Tie as tie
 
-abbrev entry : tie.After-check-start → tie.Start
+abbrev entry : tie.After-check_start-checked → tie.Start
 entry q = q.before.before.before.before.before
 
 -- what is answered and left keeps the promises
-kept : (q : tie.After-check-start) {r : Report} {out work : List ℕ} → let a = (entry q).args in
+kept : (q : tie.After-check_start-checked) {r : Report} {out work : List ℕ} → let a = (entry q).args in
     Called a.n a.d.now (at a.n a.d.now) demand_limit a.f.now a.budget (length a.out.now) (length a.work.now) r out work
     → Produced a.n a.d.now a.f.now a.budget a.out.now a.work.now r out work
 unfolding production_report
 kept q e =
-    let a = (entry q).args in
+    let a = q.args in
     produced a.n a.d.now a.f.now a.budget a.out.now a.work.now e.answer e.outputs e.cleared
 
-returns-2 : tie.Need-returns-2
+returns-2 : tie.Need-returns-in-Accepted
 returns-2 c =
     let p = c.before.before.before.before.before.before.before in
-    let q = p.before.before in
-    let a = (entry q).args in
-    kept q (called_on q.check-start.ensures (at a.n a.d.now) a.budget p.enum_told.given.1 c.before.before.before.before.settle.ensures)
+    let q = p.before in
+    let a = q.args in
+    kept q (called_on q.check_start-checked.ensures (at a.n a.d.now) a.budget p.in-Accepted.is c.settle.ensures)
 
-returns : tie.Need-returns
+returns : tie.Need-returns-in-Refused
 returns c =
-    let k = c.before.before.before.before.before.before.before.before in
-    let q = k.before.before in
-    let a = (entry q).args in
-    kept q (called_stop q.check-start.ensures (at a.n a.d.now) a.budget k.checked.given.1 c.before.before.before.before.refuse.ensures)
+    let k = c.before.before.before.before.before.before.before in
+    let q = k.before in
+    let a = q.args in
+    kept q (called_stop q.check_start-checked.ensures (at a.n a.d.now) a.budget k.in-Refused.is c.refuse.ensures)
 
 settle-requires : tie.Need-settle-requires
 settle-requires c κs =
-    let q = c.before.before.before.before in
-    let s = passed q.check-start.ensures c.before.before.enum_told.given.1 in
-    (rows_settleable s.matrix (entry q).args.f.now s.start s.small, s.slices.0, s.slices.1.0)
+    let s = passed c.check_start-checked.ensures c.in-Accepted.is in
+    (rows_settleable s.matrix c.args.f.now s.start s.small, s.slices.0, s.slices.1.0)
 
 pub production_spec : {M : Type 1} → statement M
 production_spec =

@@ -30,21 +30,21 @@ entry q = q.before.before.before.before.before.before
 
 -- the copy, and that it is what is lent to the rounds
 abbrev rows : tie.After-transpose → List ℕ
-rows q = q.transpose.new.1.1.0
+rows q = q.transpose.new.sheet
 
 rows-length : (q : tie.After-transpose) → length (rows q) ≡ (entry q).args.n * (entry q).args.n
-rows-length q = q.transpose.auto.1.1.0 ∙ part (entry q)
+rows-length q = q.transpose.auto.sheet ∙ part (entry q)
 
 stored : (q : tie.After-transpose) → let m = (entry q).args.n * (entry q).args.n in take m (rows q ++ drop m zeros) ≡ rows q
 stored q =
-    let m = (entry q).args.n * (entry q).args.n in
+    let m = q.args.n * q.args.n in
     take_at (rows q) (drop m zeros) m (rows-length q)
 
-rows-part : tie.Need-array-share-prefix-rows
+rows-part : tie.Need-slice_bounds-rows-end-2
 rows-part c =
     let q = c.before in
-    let m = (entry q).args.n * (entry q).args.n in
-    subst⁻¹ (λ (k : ℕ). m ≤ k) (length_front zeros (rows q) m q.transpose.auto.1.1.0) (small (entry q))
+    let m = q.args.n * q.args.n in
+    subst⁻¹ (λ (k : ℕ). m ≤ k) (length_front zeros (rows q) m q.transpose.auto.sheet) (small (entry q))
 
 settle-requires : tie.Need-settle-requires
 settle-requires c κs =
@@ -52,19 +52,19 @@ settle-requires c κs =
     let s = entry q in
     let start = s.args.start.now in (
       subst⁻¹ (λ (t : List ℕ). Settleable s.args.n t start) (stored q)
-          (columns_settleable s.pre.0.0 start s.pre.0.1 s.pre.1 (rows q) (rows-length q) q.transpose.ensures),
-      s.pre.0.2,
-      s.pre.0.3,
+          (columns_settleable s.requires.0.0 start s.requires.0.1 s.requires.1 (rows q) (rows-length q) q.transpose.ensures),
+      s.requires.0.2,
+      s.requires.0.3,
     )
 
 returns : tie.Need-returns
 returns c =
-    let r = c.before.before.before.before.settle in
+    let r = c.settle in
     let q = c.before.before.before.before.before.before.before.before.before in
-    let a = (entry q).args in
+    let a = q.args in
     let n = a.n in
     settlement_alike n (at n (rows q)) (transposed (at n a.d.now)) q.transpose.ensures a.start.now a.budget
-    (subst (λ (l : List ℕ). Settlement n (at n l) a.start.now a.budget (report_rounds r.result) r.new.1.1.1.1.0 r.new.1.1.1.1.1.0) (stored q) r.ensures)
+    (subst (λ (l : List ℕ). Settlement n (at n l) a.start.now a.budget (report_rounds r.result) r.new.out r.new.work) (stored q) r.ensures)
 
 pub settle_columns_spec : {M : Type 1} → statement M
 settle_columns_spec =

@@ -4,13 +4,11 @@ use Rattle.settle_sums.proofs.Carrying.{carried_start}
 use Rattle.settle_loop.proofs.run_rows.Statement.{statement}
 use Rattle.settle_loop.proofs.run_rows.Tie as tie
 
-run-turns-requires : tie.Need-run-turns-requires
+run-turns-requires : tie.Need-run_turns-requires
 run-turns-requires c κs =
-    let q = c.before.before.before.before.before in
-    let s = q.before.before.before.before.before.before in
-    let a = s.args in
-    let copied = q.copy-cells.ensures in
-    (s.requires.0, s.requires.1, copied, rw (copied, s.requires.1) (carried_start a.n a.d.now a.start.now s.requires.0.few))
+    let a = c.args in
+    let copied = c.copy_cells.ensures in
+    (c.requires.0, c.requires.1, copied, rw (copied, c.requires.1) (carried_start a.n a.d.now a.start.now c.requires.0.few))
 
 pub run_rows_spec : {M : Type 1} → statement M
 run_rows_spec =
