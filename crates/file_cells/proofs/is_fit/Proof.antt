@@ -6,18 +6,18 @@ use Rattle.model.specs.Table.{sheet_limit}
 use Rattle.file_cells.proofs.is_fit.Statement.{statement}
 use Rattle.file_cells.proofs.is_fit.Tie as tie
 
-returns : tie.Need-returns
-returns c = rw (ne_eqb sheet_limit c.before.before.args.x c.if1.true) refl
+returns : tie.Need-returns-then-x-ne-SHEET
+returns c = rw (ne_eqb sheet_limit c.args.x c.if-x-ne-SHEET.true) refl
 
-returns-2 : tie.Need-returns-2
+returns-2 : tie.Need-returns-then-not-all_equal
 returns-2 c =
-    let a = c.before.before.before.before.args in
-    rw (eq-eqb sheet_limit a.x c.before.before.if1.false, sym c.before.all_equal.ensures ∙ not-true _ c.if2.true) refl
+    let a = c.args in
+    rw (eq-eqb sheet_limit a.x c.if-x-ne-SHEET.false, sym c.all_equal.ensures ∙ c.if-not-all_equal.true) refl
 
-returns-3 : tie.Need-returns-3
+returns-3 : tie.Need-returns
 returns-3 c =
-    let a = c.before.before.before.before.args in
-    rw (eq-eqb sheet_limit a.x c.before.before.if1.false, sym c.before.all_equal.ensures ∙ not-false _ c.if2.false) refl
+    let a = c.args in
+    rw (eq-eqb sheet_limit a.x c.if-x-ne-SHEET.false, sym c.all_equal.ensures ∙ c.if-not-all_equal.false) refl
 
 pub is_fit_spec : {M : Type 1} → statement M
 is_fit_spec = tie.close (tie.spec returns (λ c κs. search rules) returns-2 returns-3)

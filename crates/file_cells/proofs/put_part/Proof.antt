@@ -7,18 +7,17 @@ use lib.ListN.{take, drop}
 use Rattle.file_cells.proofs.put_part.Statement.{statement}
 use Rattle.file_cells.proofs.put_part.Tie as tie
 
-returns : tie.Need-returns
+returns : tie.Need-returns-then-out-count
 returns c =
-    let p = c.before.before.before.before.before in
-    let a = p.before.before.before.args in
+    let a = c.args in
     let n : (a.from + a.count) - a.from ≡ a.count = omega arith in
     record {
-      copied = λ q. c.before.before.copy-cells.ensures ∙ ap (λ (k : ℕ). take k (drop a.from a.cells.now)) n;
-      cleared = λ q. absurd (q p.if1.true);
+      copied = λ q. c.copy_cells.ensures ∙ ap (λ (k : ℕ). take k (drop a.from a.cells.now)) n;
+      cleared = λ q. absurd (q c.if-out-count.true);
     }
 
-returns-2 : tie.Need-returns-2
-returns-2 c = record { copied = λ q. absurd (c.before.before.before.before.if1.false q); cleared = λ q. c.before.before.fill-zero.ensures }
+returns-2 : tie.Need-returns
+returns-2 c = record { copied = λ q. absurd (c.if-out-count.false q); cleared = λ q. c.fill_zero.ensures }
 
 pub put_part_spec : {M : Type 1} → statement M
 put_part_spec =

@@ -12,13 +12,13 @@ abbrev entry : tie.After-settle-earlier → tie.Start
 entry q = q.before.before.before.before.before.before.before.before.before
 
 -- where the first demand has settled, and after the second was
-abbrev first : tie.In-Settled-2 → tie.After-settle-earlier
+abbrev first : tie.In-Settled → tie.After-settle-earlier
 first p = p.before.before.before.before.before
 
-abbrev told : tie.After-settle-later → tie.In-Settled-2
+abbrev told : tie.After-settle-later → tie.In-Settled
 told p = p.before.before.before
 
-abbrev second : tie.In-Settled-later-2 → tie.After-settle-later
+abbrev second : tie.In-Settled-later → tie.After-settle-later
 second p = p.before.before.before.before.before
 
 -- both settle
@@ -28,7 +28,7 @@ returns-3 c =
     let p = second o in
     let q = first (told p) in
     let a = q.args in
-    both_settle_lem a.n (at a.n a.d.now) a.now a.after.now a.budget q.settle-earlier.ensures (told p).in-Settled.is
+    both_settle_lem a.n (at a.n a.d.now) a.before.now a.after.now a.budget q.settle-earlier.ensures (told p).in-Settled.is
     p.settle-later.ensures o.in-Settled-later.is c.larger.ensures c.subtract.ensures
 
 -- the second does not, and the first does not
@@ -37,13 +37,13 @@ returns-2 c =
     let p = c.before.before.before.before.before in
     let q = first (told p) in
     let a = q.args in
-    second_stops a.n (at a.n a.d.now) a.now a.after.now a.budget q.settle-earlier.ensures (told p).in-Settled.is
+    second_stops a.n (at a.n a.d.now) a.before.now a.after.now a.budget q.settle-earlier.ensures (told p).in-Settled.is
     p.settle-later.ensures c.in_default-later.is
 
 returns : tie.Need-returns-in_default
 returns c =
     let a = c.args in
-    first_stops a.n (at a.n a.d.now) a.now a.after.now a.budget c.settle-earlier.ensures
+    first_stops a.n (at a.n a.d.now) a.before.now a.after.now a.budget c.settle-earlier.ensures
     c.in_default.is
     (c.fill_zero.ensures ∙ ap (λ (k : ℕ). replicate k 0) c.requires.1.1)
 
@@ -56,7 +56,7 @@ subtract-requires c κs =
     let a = s.args in (
       q.settle-earlier.auto.out ∙ s.requires.1.0,
       p.settle-later.auto.out ∙ s.requires.1.1,
-      both_ordered a.n (at a.n a.d.now) a.now a.after.now a.budget q.settle-earlier.ensures (told p).in-Settled.is
+      both_ordered a.n (at a.n a.d.now) a.before.now a.after.now a.budget q.settle-earlier.ensures (told p).in-Settled.is
           p.settle-later.ensures o.in-Settled-later.is s.requires.0.2,
     )
 

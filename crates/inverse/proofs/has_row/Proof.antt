@@ -12,16 +12,16 @@ use Rattle.inverse.proofs.has_row.Statement.{statement}
 use Rattle.inverse.proofs.has_row.Tie as tie
 
 -- past the first test n is from 1 to 40
-sized : (c : tie.Else1) → few_sectors c.before.before.args.n ≡ true
-sized c = sym c.before.is-sized.ensures ∙ not-false _ c.if1.false
+sized : (c : tie.Else-not-is_sized) → few_sectors c.args.n ≡ true
+sized c = sym c.is_sized.ensures ∙ c.if-not-is_sized.false
 
-few : (c : tie.Else1) → c.before.before.args.n ≤ sector_limit
-few c = (from_one c.before.before.args.n sector_limit (sized c)).1
+few : (c : tie.Else-not-is_sized) → c.args.n ≤ sector_limit
+few c = (from_one c.args.n sector_limit (sized c)).1
 
 pub has_row_spec : {M : Type 1} → statement M
 has_row_spec =
     tie.close
     (tie.spec
-    (λ c κs. search rules) (λ c. rw (sym c.before.is-sized.ensures ∙ not-true _ c.if1.true) refl)
-    (λ c. omega (arith, mul-le-mul (few c) (few c))) (λ c. rw (sized c.before, ne_eqb _ _ c.if2.true) refl)
-    (λ c. rw (sized c.before, eq-eqb _ _ c.if2.false) refl))
+    (λ c κs. search rules) (λ c. rw (sym c.is_sized.ensures ∙ c.if-not-is_sized.true) refl)
+    (λ c. omega (arith, mul-le-mul (few c) (few c))) (λ c. rw (sized c.before, ne_eqb _ _ c.if-n-cells.true) refl)
+    (λ c. rw (sized c.before, eq-eqb _ _ c.if-n-cells.false) refl))

@@ -17,84 +17,83 @@ use Rattle.inverse.proofs.Ready.{inverse_ready}
 use Rattle.inverse.proofs.inverse.Statement.{statement}
 use Rattle.inverse.proofs.inverse.Tie as tie
 
-abbrev entry : tie.After-fill-inverse → tie.Start
+abbrev entry : tie.After-fill_inverse-outcome → tie.Start
 entry q = q.before.before.before.before.before.before
 
-abbrev sheet : tie.After-fill-inverse → List ℕ
-sheet q = q.fill-inverse.new.1.1.1.1.1.0
+abbrev sheet : tie.After-fill_inverse-outcome → List ℕ
+sheet q = q.fill_inverse-outcome.new.sheet
 
 -- where every column has settled: the sheet is the inverse, and the slices have their lengths
-abbrev filled : tie.After-enum-told → tie.After-fill-inverse
-filled p = p.before.before.before.before
+abbrev filled : tie.In_default → tie.After-fill_inverse-outcome
+filled p = p.before.before.before
 
-accepted : (p : tie.After-enum-told) → (report_rounds (filled p).fill-inverse.result).accepted ≡ true
-accepted p = ap (λ (o : Outcome). (report_rounds o).accepted) p.enum_told.given.1
+accepted : (p : tie.In_default) → (report_rounds (filled p).fill_inverse-outcome.result).accepted ≡ true
+accepted p = ap (λ (o : Outcome). (report_rounds o).accepted) p.in_default.is
 
-made : (p : tie.After-enum-told) → let a = (entry (filled p)).args in sheet (filled p) ≡ inverse a.n a.d.now a.budget
+made : (p : tie.In_default) → let a = (entry (filled p)).args in sheet (filled p) ≡ inverse a.n a.d.now a.budget
 made p =
     let q = filled p in
-    let a = (entry q).args in
-    q.fill-inverse.ensures.1
-    ∙ output_given (report_rounds q.fill-inverse.result) (length a.sheet.now) (inverse a.n a.d.now a.budget) (accepted p)
+    let a = q.args in
+    q.fill_inverse-outcome.ensures.1
+    ∙ output_given (report_rounds q.fill_inverse-outcome.result) (length a.sheet.now) (inverse a.n a.d.now a.budget) (accepted p)
 
 ready :
-    (p : tie.After-enum-told) →
+    (p : tie.In_default) →
     let a = (entry (filled p)).args in
     let s = sheet (filled p) in
     ((length s ≡ a.n * a.n) × ((t : Bool) → Dispersed a.n (oriented t (at a.n s))))
     × (length a.power.now ≡ a.n) × (length a.sensitivity.now ≡ a.n)
 ready p =
     let q = filled p in
-    let a = (entry q).args in
+    let a = q.args in
     let lp = length a.power.now in
     let ls = length a.sensitivity.now in
-    let said = ap (λ (r : Report). r.accepted) (sym q.fill-inverse.ensures.0) ∙ accepted p in
+    let said = ap (λ (r : Report). r.accepted) (sym q.fill_inverse-outcome.ensures.0) ∙ accepted p in
     let r = accepted_inverse a.n a.d.now a.budget (length a.sheet.now ∷ []) (lp ∷ ls ∷ []) said in
     (inverse_ready r.0 a.budget (made p), r.1.0, r.1.1.0)
 
 -- number 9 comes from lower budgets alone
-never : (q : tie.After-fill-inverse) → (report_rounds q.fill-inverse.result).number ≡ 9 → (entry q).args.budget < price_budget
+never : (q : tie.After-fill_inverse-outcome) → (report_rounds q.fill_inverse-outcome.result).number ≡ 9 → (entry q).args.budget < price_budget
 never q z =
-    let a = (entry q).args in
+    let a = q.args in
     inverse_nine a.n a.d.now a.budget (length a.sheet.now ∷ []) (length a.power.now ∷ length a.sensitivity.now ∷ [])
-    (ap (λ (r : Report). r.number) (sym q.fill-inverse.ensures.0) ∙ z)
+    (ap (λ (r : Report). r.number) (sym q.fill_inverse-outcome.ensures.0) ∙ z)
 
-fill-dispersion-requires : tie.Need-fill-dispersion-requires
+fill-dispersion-requires : tie.Need-fill_dispersion-requires
 fill-dispersion-requires c κs =
-    let r = ready c.before.before in
+    let r = ready c.before in
     (r.0.0, search (r.0.1 false, r.0.1 true), r.1)
 
-fill-dispersion-requires-2 : tie.Need-fill-dispersion-requires-2
+fill-dispersion-requires-2 : tie.Need-fill_dispersion-requires-2
 fill-dispersion-requires-2 c κs =
-    let r = ready c.before.before.before.before.before.before.before in
+    let r = ready c.before.before.before.before.before in
     (r.0.0, search (r.0.1 false, r.0.1 true), r.2)
 
-returns : tie.Need-returns
+returns : tie.Need-returns-in-Refused
 returns c =
-    let k = c.before.before.before.before.before.before.before.before.before in
-    let q = k.before.before.before.before in
-    let a = (entry q).args in
-    let e = k.outcome.given.1 in
+    let k = c.before.before.before.before.before.before.before.before in
+    let q = k.before.before.before in
+    let a = q.args in
+    let e = k.in-Refused.is in
     record {
-      answer = sym (ap report_rounds e) ∙ q.fill-inverse.ensures.0;
-      sheets = q.fill-inverse.ensures.1
+      answer = sym (ap report_rounds e) ∙ q.fill_inverse-outcome.ensures.0;
+      sheets = q.fill_inverse-outcome.ensures.1
           ∙ ap (λ (o : Outcome). output (report_rounds o) (length a.sheet.now) (inverse a.n a.d.now a.budget)) e;
-      powers = c.before.before.before.before.before.before.fill-zero.ensures;
-      sensitivities = c.before.before.fill-zero2.ensures;
+      powers = c.fill_zero.ensures;
+      sensitivities = c.fill_zero-in-Refused.ensures;
       enough = λ z. never q (ap (λ (o : Outcome). (report_rounds o).number) e ∙ z);
     }
 
-returns-2 : tie.Need-returns-2
+returns-2 : tie.Need-returns
 returns-2 c =
-    let r = c.before.before.before.before.before.before.before in
-    let p = r.before.before.before in
+    let p = c.before.before.before.before.before.before.before.before in
     let q = filled p in
-    let n = (entry q).args.n in
+    let n = q.args.n in
     record {
-      answer = q.fill-inverse.ensures.0;
-      sheets = q.fill-inverse.ensures.1;
-      powers = rw (accepted p) (r.fill-dispersion.ensures ∙ ap (λ (s : List ℕ). dispersion n (at n s)) (made p));
-      sensitivities = rw (accepted p) (c.before.before.fill-dispersion2.ensures ∙ ap (λ (s : List ℕ). dispersion n (transposed (at n s))) (made p));
+      answer = q.fill_inverse-outcome.ensures.0;
+      sheets = q.fill_inverse-outcome.ensures.1;
+      powers = rw (accepted p) (c.fill_dispersion.ensures ∙ ap (λ (s : List ℕ). dispersion n (at n s)) (made p));
+      sensitivities = rw (accepted p) (c.fill_dispersion-2.ensures ∙ ap (λ (s : List ℕ). dispersion n (transposed (at n s))) (made p));
       enough = never q;
     }
 

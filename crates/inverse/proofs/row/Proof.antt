@@ -10,16 +10,16 @@ use Rattle.inverse.proofs.row.Statement.{statement}
 use Rattle.inverse.proofs.row.Tie as tie
 
 -- in the first arm the sheet has the row
-there : (c : tie.Then1) → let a = c.before.before.before.args in Row a.n (length a.sheet.now) a.sector
-there c = has_row_lem _ _ _ (sym c.before.has_row.ensures ∙ c.if1.true)
+there : (c : tie.Then-has_row) → let a = c.args in Row a.n (length a.sheet.now) a.sector
+there c = has_row_lem _ _ _ (sym c.has_row.ensures ∙ c.if-has_row.true)
 
-returns : tie.Need-returns
+returns : tie.Need-returns-then-has_row
 unfolding row_slice
-returns c = rw (add-sub_cancel_left, sym c.before.before.has_row.ensures ∙ c.before.if1.true)
+returns c = rw (add-sub_cancel_left, sym c.has_row.ensures ∙ c.if-has_row.true)
 
-returns-2 : tie.Need-returns-2
+returns-2 : tie.Need-returns
 unfolding row_slice
-returns-2 c = rw (sym c.before.before.has_row.ensures ∙ c.before.if1.false)
+returns-2 c = rw (sym c.has_row.ensures ∙ c.if-has_row.false)
 
 pub row_spec : {M : Type 1} → statement M
 row_spec =

@@ -6,21 +6,18 @@ use Rattle.page_production.proofs.Stages.{induced_stop, induced_on}
 use Rattle.page_production.proofs.fill_induced.Statement.{statement}
 use Rattle.page_production.proofs.fill_induced.Tie as tie
 
-returns : tie.Need-returns
+returns : tie.Need-returns-in-Refused
 returns c =
-    let q = c.before.before.before.before.before.before.before in
-    let s = c.before.before.before.before.before.before.before.before.before.before.before.before.before.before.before.before.before in
-    let a = s.args in
-    induced_stop a.n a.a.now a.m.now a.v.now a.final-demand.now a.y.now a.rounds s.requires.0 s.requires.1
-    (ap report c.before.answer.given.1) q.induced.ensures.answer
+    let a = c.args in
+    induced_stop a.n a.a.now a.m.now a.v.now a.final_demand.now a.y.now a.rounds c.requires.0 c.requires.1
+    (ap report c.in-Refused.is) c.induced-answer.ensures.answer
 
-returns-2 : tie.Need-returns-2
+returns-2 : tie.Need-returns-in-Accepted
 returns-2 c =
-    let w = c.before.before.before.before.before.before.induced.ensures in
-    let s = c.before.before.before.before.before.before.before.before.before.before.before.before.before.before.before.before in
-    let a = s.args in
-    induced_on a.n a.a.now a.m.now a.v.now a.final-demand.now a.y.now a.rounds s.requires.0 s.requires.1
-    (ap report c.enum_told.given.1) w.answer w.values w.imported
+    let w = c.induced-answer.ensures in
+    let a = c.args in
+    induced_on a.n a.a.now a.m.now a.v.now a.final_demand.now a.y.now a.rounds c.requires.0 c.requires.1
+    (ap report c.in-Accepted.is) w.answer w.values w.imported
 
 pub fill_induced_spec : {M : Type 1} → statement M
 fill_induced_spec =

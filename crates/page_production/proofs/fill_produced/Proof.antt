@@ -6,21 +6,18 @@ use Rattle.page_production.proofs.Stages.{part, production_stop, production_on}
 use Rattle.page_production.proofs.fill_produced.Statement.{statement}
 use Rattle.page_production.proofs.fill_produced.Tie as tie
 
-returns : tie.Need-returns
+returns : tie.Need-returns-in-Refused
 returns c =
-    let q = c.before.before.before.before.before.before in
-    let s = c.before.before.before.before.before.before.before.before.before.before.before.before.before.before.before.before.before.before in
-    let a = s.args in
-    production_stop a.n a.a.now a.m.now a.v.now a.final-demand.now a.d.now a.f.now s.requires.1 (part a.n _ s.requires.0)
-    (ap report_rounds c.before.outcome.given.1) q.production.ensures.answer
+    let a = c.args in
+    production_stop a.n a.a.now a.m.now a.v.now a.final_demand.now a.d.now a.f.now c.requires.1 (part a.n _ c.requires.0)
+    (ap report_rounds c.in-Refused.is) c.production-outcome.ensures.answer
 
-returns-2 : tie.Need-returns-2
+returns-2 : tie.Need-returns-in-Settled
 returns-2 c =
-    let w = c.before.before.before.before.before.before.before.before.before.before.before.before.before.before.production.ensures in
-    let s = c.before.before.before.before.before.before.before.before.before.before.before.before.before.before.before.before.before.before.before.before.before.before.before.before.before.before in
-    let a = s.args in
-    production_on a.n a.a.now a.m.now a.v.now a.final-demand.now a.d.now a.f.now s.requires.1 (part a.n _ s.requires.0)
-    (ap report_rounds c.before.before.before.before.before.before.before.before.before.outcome2.given.1) w.answer w.outputs c.before.before.before.before.fill-induced.ensures
+    let w = c.production-outcome.ensures in
+    let a = c.args in
+    production_on a.n a.a.now a.m.now a.v.now a.final_demand.now a.d.now a.f.now c.requires.1 (part a.n _ c.requires.0)
+    (ap report_rounds c.in-Settled.is) w.answer w.outputs c.fill_induced.ensures
 
 pub fill_produced_spec : {M : Type 1} → statement M
 fill_produced_spec =

@@ -8,7 +8,7 @@ use Rattle.page_sheets.proofs.Cuts.{lent_table, sheets, table_cut}
 use Rattle.page_sheets.proofs.fill_coefficients.Statement.{statement}
 use Rattle.page_sheets.proofs.fill_coefficients.Tie as tie
 
-part-coefficients-end : tie.Need-slice-bounds-coefficients-end
+part-coefficients-end : tie.Need-slice_bounds-coefficients-end
 part-coefficients-end c =
     let square : c.args.n * c.args.n ≤ sheet_limit = mul-le-mul c.requires.0.0 c.requires.0.0 in
     omega (arith, square, c.requires.0.1)
