@@ -8,16 +8,16 @@ use Rattle.file_reader.proofs.read_table.Statement.{statement}
 use Rattle.file_reader.proofs.read_table.Tie as tie
 
 -- from what is delivered to the reading, and from there to the call
-abbrev read : tie.After-deliver → tie.After-read-called
+abbrev read : tie.After-deliver → tie.After-read_called-answer
 read d = d.before.before.before.before.before.before.before.before.before.before.before.before.before
 
-abbrev start : tie.After-read-called → tie.Start
+abbrev start : tie.After-read_called-answer → tie.Start
 start q = q.before.before.before.before.before.before.before.before.before.before.before.before.before.before
 
 returns : tie.Need-returns
 returns c =
     let d = c.before.before.before.before.before.before.before.before.before.before.before.before.before.before.before.before in
-    let t = (read d).read-called.ensures in
+    let t = (read d).read_called-answer.ensures in
     let a = (start (read d)).args in
     let answered = ap report_read t.0 in
     let delivered = d.deliver.ensures a.marks.now a.file.now _ refl t.1 in

@@ -9,27 +9,27 @@ use Rattle.page_figures.proofs.Stages.{figures_stop, figures_on}
 use Rattle.page_figures.proofs.fill_figures.Statement.{statement}
 use Rattle.page_figures.proofs.fill_figures.Tie as tie
 
-abbrev start : tie.After-fill-coefficients → tie.Start
+abbrev start : tie.After-fill_coefficients-answer → tie.Start
 start q = q.before.before.before.before.before.before.before.before.before.before.before.before.before.before.before
 
 abbrev table : tie.Start → Table
 table s = table_in s.args.n s.args.cells.now
 
-fill-produced-requires : tie.Need-fill-produced-requires
+fill-produced-requires : tie.Need-fill_produced-requires
 fill-produced-requires c κs =
-    let s = start c.before.before.before.before.before.before.before.before.before.before.before.before.before.before.before.before.before.before.before.before.before in
-    let l = s.pre.1.1 in
-    (s.pre.0.0, l.0, l.1, l.2)
+    let s = start c.before.before.before.before.before.before.before.before.before.before.before.before.before.before.before in
+    let l = s.requires.1.1 in
+    (s.requires.0.0, l.0, l.1, l.2)
 
-returns : tie.Need-returns
-returns c = let q = c.before.before.before.before.before.before.before.before.before.before.before.before.before in figures_stop (table (start q)) q.fill-coefficients.ensures (ap report c.before.answer.given.1)
+returns : tie.Need-returns-in-Refused
+returns c = let q = c.before.before.before.before.before.before.before.before.before.before.before in figures_stop (table (start q)) q.fill_coefficients-answer.ensures (ap report c.in-Refused.is)
 
-returns-2 : tie.Need-returns-2
+returns-2 : tie.Need-returns-in-Accepted
 returns-2 c =
-    let q = c.before.before.before.before.before.before.before.before.before.before.before.before.before.before.before.before.before.before.before.before.before.before.before.before.before.before.before.before in
-    let a = (start q).args in
-    figures_on (table (start q)) q.fill-coefficients.ensures (ap report c.before.before.before.before.before.before.before.before.before.before.before.before.before.before.before.before.enum_told.given.1)
-    (demand_cut a.n a.cells.now) c.before.before.before.before.before.before.fill-produced.ensures
+    let q = c.before.before.before.before.before.before.before.before.before.before.before.before.before.before.before.before.before.before.before.before.before.before in
+    let a = q.args in
+    figures_on (table (start q)) q.fill_coefficients-answer.ensures (ap report c.in-Accepted.is)
+    (demand_cut a.n a.cells.now) c.fill_produced.ensures
 
 pub fill_figures_spec : {M : Type 1} → statement M
 fill_figures_spec =

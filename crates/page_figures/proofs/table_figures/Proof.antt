@@ -11,16 +11,16 @@ use Rattle.page_figures.proofs.table_figures.Tie as tie
 square : (s : tie.Start) → s.args.n * s.args.n ≤ sheet_limit
 square s = mul-le-mul s.requires.0.0 s.requires.0.0
 
-mul-square : tie.Need-overflow-mul-square
+mul-square : tie.Need-overflow_mul-square
 mul-square c = omega (arith, square c.before.before.before.before.before)
 
-part-a-end : tie.Need-slice-bounds-a-end
+part-a-end : tie.Need-slice_bounds-a-end
 part-a-end c = square c.before.before.before.before.before
 
-part-d-end : tie.Need-slice-bounds-d-end
+part-d-end : tie.Need-slice_bounds-d-end
 part-d-end c = square c.before.before.before.before.before.before.before.before
 
-fill-figures-requires : tie.Need-fill-figures-requires
+fill-figures-requires : tie.Need-fill_figures-requires
 fill-figures-requires c κs =
     let s = c.before.before.before.before.before.before.before.before.before.before.before.before.before in
     let n = s.args.n in

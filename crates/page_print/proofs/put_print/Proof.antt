@@ -17,52 +17,51 @@ abbrev text : tie.Start → Print → List ℕ
 text s r = let a = s.args in text_of r a.f.now a.y.now a.value.now a.imports.now
 
 -- the text that each arm writes
-stops : (k : tie.After-print) → let s = k.before.before.before.before.before.before.before in refusal_line k.print.given.0.0 k.print.given.0.1.0 ≡ text s s.args.print
-stops k = sym (ap (text k.before.before.before.before.before.before.before) k.print.given.1)
+stops : (k : tie.In-Refusal-2) → let s = k.before.before.before.before.before.before in refusal_line k.in-Refusal.number k.in-Refusal.place ≡ text s s.args.print
+stops k = sym (ap (text k.before.before.before.before.before.before) k.in-Refusal.is)
 
 goes_on :
-    (k : tie.After-print2) →
-    let s = k.before.before.before.before.before.before.before in
+    (k : tie.In-Sheet-2) →
+    let s = k.before.before.before.before.before.before in
     let a = s.args in
-    let n = k.print2.given.0.0 in
-    sheet n (take (n - 0) a.f.now) (take (n - 0) a.y.now) (take (n - 0) a.value.now) (take (n - 0) a.imports.now) k.print2.given.0.1.0 ≡ text s a.print
+    let n = k.in-Sheet.sectors in
+    sheet n (take (n - 0) a.f.now) (take (n - 0) a.y.now) (take (n - 0) a.value.now) (take (n - 0) a.imports.now) k.in-Sheet.rounds ≡ text s a.print
 goes_on k =
-    let s = k.before.before.before.before.before.before.before in
+    let s = k.before.before.before.before.before.before in
     let a = s.args in
-    sheet_part k.print2.given.0.0 a.f.now a.y.now a.value.now a.imports.now k.print2.given.0.1.0 ∙ sym (ap (text s) k.print2.given.1)
+    sheet_part k.in-Sheet.sectors a.f.now a.y.now a.value.now a.imports.now k.in-Sheet.rounds ∙ sym (ap (text s) k.in-Sheet.is)
 
-few : (k : tie.After-print2) → k.print2.given.0.0 ≤ sector_limit
-few k = subst Few k.print2.given.1 k.before.before.before.before.before.before.before.requires.0.0
+few : (k : tie.In-Sheet-2) → k.in-Sheet.sectors ≤ sector_limit
+few k = subst Few k.in-Sheet.is k.requires.0.0
 
-returns : tie.Need-returns
-returns c = told c.before.before.before.before.before.before.before.before.before.before.before.before.args.out.now (stops c.before.before.before.before.before) c.before.before.put-refusal.ensures
+returns : tie.Need-returns-in-Refusal
+returns c = told c.args.out.now (stops c.before.before.before.before) c.put_refusal.ensures
 
-returns-2 : tie.Need-returns-2
-returns-2 c = told c.before.before.before.before.before.before.before.before.before.before.before.before.before.before.before.before.args.out.now (goes_on c.before.before.before.before.before.before.before.before.before) c.before.before.put-sheet.ensures
+returns-2 : tie.Need-returns-in-Sheet
+returns-2 c = told c.args.out.now (goes_on c.before.before.before.before.before.before.before.before) c.put_sheet.ensures
 
-put-refusal-requires : tie.Need-put-refusal-requires
-put-refusal-requires c κs = let k = c.before.before in room (stops k) k.before.before.before.before.before.before.before.requires.1
+put-refusal-requires : tie.Need-put_refusal-requires
+put-refusal-requires c κs = let k = c.before in room (stops k) k.requires.1
 
-part-put-sheet-end : tie.Need-slice-bounds-put-sheet-end
-part-put-sheet-end c = omega (arith, few c.before, c.before.before.before.before.before.before.before.before.requires.0.1)
+part-put-sheet-end : tie.Need-slice_bounds-put_sheet-end
+part-put-sheet-end c = omega (arith, few c, c.requires.0.1)
 
 part-put-sheet-end-2 : tie.Need-slice-bounds-put-sheet-end-2
-part-put-sheet-end-2 c = omega (arith, few c.before.before, c.before.before.before.before.before.before.before.before.before.requires.0.2)
+part-put-sheet-end-2 c = omega (arith, few c.before.before, c.requires.0.2)
 
 part-put-sheet-end-3 : tie.Need-slice-bounds-put-sheet-end-3
-part-put-sheet-end-3 c = omega (arith, few c.before.before.before, c.before.before.before.before.before.before.before.before.before.before.requires.0.3)
+part-put-sheet-end-3 c = omega (arith, few c.before.before.before, c.requires.0.3)
 
 part-put-sheet-end-4 : tie.Need-slice-bounds-put-sheet-end-4
-part-put-sheet-end-4 c = omega (arith, few c.before.before.before.before, c.before.before.before.before.before.before.before.before.before.before.before.requires.0.4)
+part-put-sheet-end-4 c = omega (arith, few c.before.before.before.before, c.requires.0.4)
 
-put-sheet-requires : tie.Need-put-sheet-requires
+put-sheet-requires : tie.Need-put_sheet-requires
 put-sheet-requires c κs =
-    let k = c.before.before.before.before.before.before in
-    let s = c.before.before.before.before.before.before.before.before.before.before.before.before.before in
-    let a = s.args in
-    let n = k.print2.given.0.0 in
-    let l = s.requires.0 in
-    ((first_part n a.f.now (few k) l.1, first_part n a.y.now (few k) l.2, first_part n a.value.now (few k) l.3, first_part n a.imports.now (few k) l.4), room (goes_on k) s.requires.1)
+    let k = c.before.before.before.before.before in
+    let a = c.args in
+    let n = k.in-Sheet.sectors in
+    let l = c.requires.0 in
+    ((first_part n a.f.now (few k) l.1, first_part n a.y.now (few k) l.2, first_part n a.value.now (few k) l.3, first_part n a.imports.now (few k) l.4), room (goes_on k) c.requires.1)
 
 pub put_print_spec : {M : Type 1} → statement M
 put_print_spec =
