@@ -44,7 +44,7 @@ fn print(rt: &(impl Print + Eprint), bytes: &[u8]) {
     }
 }
 
-// Writes the page of a table file to standard output. The buffer has the length that the page call asks for.
+// Writes the page of a table file to standard output. The buffer has the length that the page call asks for, so it refuses nothing.
 pub fn print_page(rt: &(impl Print + Eprint), file: &[u8]) {
     let mut out = [0u8; PAGE];
     let answer = write_page(file, &mut out);
@@ -52,7 +52,7 @@ pub fn print_page(rt: &(impl Print + Eprint), file: &[u8]) {
         PageWritten::Refused {
             number: _,
             place: _,
-        } => complain(rt, "page", io::Error::other("refused")),
+        } => unreachable!(),
         PageWritten::Written { length } => print(rt, &out[..length]),
     }
 }
