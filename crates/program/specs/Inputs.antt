@@ -6,4 +6,4 @@ use Rattle.program.specs.declared.Input.TheVariants.{Came, Failed}
 -- of a buffer of len bytes
 abbrev pub Inside : Input → ℕ → Type 0
 Inside (Came count) len = count ≤ len
-Inside Failed len = Unit {0}
+Inside (Failed error) len = Unit {0}

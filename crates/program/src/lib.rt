@@ -5,62 +5,64 @@
 ghost use Rattle.std.specs.Prelude.{length};
 ghost use Rattle.program.specs.Inputs.{Inside};
 
-use libc::{STDIN_FILENO, STDOUT_FILENO};
 use model::{PAGE, PageWritten};
 use page::write_page;
+use std::io;
+use std::io::Read;
 
-// Standard input up to the buffer's end: how many bytes came, or that a read failed.
+// Standard input up to the buffer's end: how many bytes came, or why a read failed.
 #[derive(Drop)]
 enum Input {
     Came { count: usize },
-    Failed,
+    Failed { error: io::Error },
 }
 
 // Reads until the buffer is full, the input ends or a read fails.
-fn read_input(buffer: &mut [u8]) -> Input
+fn read_input<R: Read>(reader: &mut R, buffer: &mut [u8]) -> Input
     ensures { Inside result (length buffer.old) }
 {
     let mut count = 0;
     while count < buffer.len() {
-        let got = libc::read(STDIN_FILENO, &mut buffer[count..]);
-        if got < 0 {
-            return Input::Failed;
+        match reader.read(&mut buffer[count..]) {
+            Ok(0) => return Input::Came { count },
+            Ok(more) => count += more,
+            Err(error) => return Input::Failed { error },
         }
-        let more = io::count(got, &buffer[count..]);
-        if more == 0 {
-            return Input::Came { count };
-        }
-        count += more;
     }
     Input::Came { count }
 }
 
+// Says on standard error what failed, and why.
+fn complain(rt: &impl Eprint, what: &str, error: io::Error) {
+    let _ = eprintln!(rt; "roadsheet: {what}: {error}");
+}
+
 // Writes bytes to standard output.
-fn print(bytes: &[u8]) {
-    if !io::write_all(STDOUT_FILENO, bytes) {
-        os::fail(b"roadsheet: standard output");
+fn print(rt: &(impl Print + Eprint), bytes: &[u8]) {
+    if let Err(error) = rt.write_all(bytes) {
+        complain(rt, "standard output", error);
     }
 }
 
-// Writes the page of a table file to standard output. The buffer has the length that the page call asks for.
-pub fn print_page(file: &[u8]) {
+// Writes the page of a table file to standard output. The buffer has the length that the page call asks for, so it refuses nothing.
+pub fn print_page(rt: &(impl Print + Eprint), file: &[u8]) {
     let mut out = [0u8; PAGE];
     let answer = write_page(file, &mut out);
     match answer {
         PageWritten::Refused {
             number: _,
             place: _,
-        } => os::fail(b"roadsheet: page"),
-        PageWritten::Written { length } => print(&out[..length]),
+        } => unreachable!(),
+        PageWritten::Written { length } => print(rt, &out[..length]),
     }
 }
 
 // Prints the page of standard input, or says on standard error why it could not be read.
-pub fn run() {
+pub fn run(rt: &(impl io::Input + Print + Eprint)) {
     let mut buffer = [0u8; 16384];
-    let input = read_input(&mut buffer);
+    let input = read_input(&mut rt.reader(), &mut buffer);
     match input {
-        Input::Failed => os::fail(b"roadsheet: standard input"),
-        Input::Came { count } => print_page(&buffer[..count]),
+        Input::Failed { error } => complain(rt, "standard input", error),
+        Input::Came { count } => print_page(rt, &buffer[..count]),
     }
 }

@@ -1,6 +1,6 @@
 // Prints the sheet of a table file: see `program`.
 #![tactic(auto)]
 
-fn main() {
-    program::run();
+fn main(rt: HostRuntime) {
+    program::run(&rt);
 }

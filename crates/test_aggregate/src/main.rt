@@ -3,10 +3,12 @@
 #![tactic(auto)]
 
 use aggregate::aggregate;
+use std::io;
 use test_show::{show_answer, show_table, show_word};
 
 // The answer to a table, and the merged table.
 fn merge(
+    rt: &impl Print,
     n: usize,
     flows: &[u64],
     demand: &[u64],
@@ -24,16 +26,20 @@ fn merge(
     p: &mut [u64],
     g: &mut [u64],
     sizes: &mut [u64],
-) {
-    show_answer(aggregate(
-        n, flows, demand, exports, imports, value, production, item, groups, x, f, e, m, v, p, g,
-        sizes,
-    ));
-    show_table(x, f, e, m, v, p, g, sizes);
+) -> io::Result<()> {
+    show_answer(
+        rt,
+        aggregate(
+            n, flows, demand, exports, imports, value, production, item, groups, x, f, e, m, v, p,
+            g, sizes,
+        ),
+    )?;
+    show_table(rt, x, f, e, m, v, p, g, sizes)
 }
 
 // With slices for so many groups as there are, up to 13.
 fn lend(
+    rt: &impl Print,
     n: usize,
     flows: &[u64],
     demand: &[u64],
@@ -43,10 +49,10 @@ fn lend(
     production: &[u64],
     item: &[u64],
     groups: &[u64],
-) {
+) -> io::Result<()> {
     let count = groups.len();
     if 13 < count {
-        return;
+        return Ok(());
     }
     let mut x = [7u64; 169];
     let mut f = [7u64; 13];
@@ -57,6 +63,7 @@ fn lend(
     let mut g = [7u64; 13];
     let mut sizes = [7u64; 13];
     merge(
+        rt,
         n,
         flows,
         demand,
@@ -74,14 +81,21 @@ fn lend(
         &mut p[..count],
         &mut g[..count],
         &mut sizes[..count],
-    );
+    )
 }
 
 // A table by its flows row by row and its columns one after the other: F, E, M, V, X and G.
-fn table(name: &[u8], flows: &[u64], columns: &[u64], groups: &[u64]) {
+fn table(
+    rt: &impl Print,
+    name: &[u8],
+    flows: &[u64],
+    columns: &[u64],
+    groups: &[u64],
+) -> io::Result<()> {
     let n = columns.len() / 6;
-    show_word(name);
+    show_word(rt, name)?;
     lend(
+        rt,
         n,
         flows,
         &columns[0..n],
@@ -91,11 +105,11 @@ fn table(name: &[u8], flows: &[u64], columns: &[u64], groups: &[u64]) {
         &columns[4 * n..5 * n],
         &columns[5 * n..6 * n],
         groups,
-    );
+    )
 }
 
 // The example of 13 sectors.
-fn region(name: &[u8], groups: &[u64]) {
+fn region(rt: &impl Print, name: &[u8], groups: &[u64]) -> io::Result<()> {
     let x = [
         7781, 2661, 662, 475, 3704, 2291, 598, 626, 1741, 978, 267, 3347, 3460, 161, 4865, 759,
         2273, 2951, 3908, 2889, 2597, 1876, 2382, 2434, 990, 81, 3724, 370, 4312, 3296, 2896, 3145,
@@ -117,91 +131,96 @@ fn region(name: &[u8], groups: &[u64]) {
         45945, 94673, 101344, 71567, 66926, 99769, 69700, 84818, 70929, 104267, 60092, 78638, 0, 0,
         0, 0, 0, 0, 0, 0, 0, 0, 0, 0, 0,
     ];
-    table(name, &x, &columns, groups);
+    table(rt, name, &x, &columns, groups)
 }
 
-fn four(name: &[u8], groups: [u64; 4]) {
-    region(name, &groups);
+fn four(rt: &impl Print, name: &[u8], groups: [u64; 4]) -> io::Result<()> {
+    region(rt, name, &groups)
 }
 
-fn regions() {
-    four(b"region to four", [4097, 170, 84, 3840]);
-    four(b"in the other order", [3840, 84, 170, 4097]);
+fn regions(rt: &impl Print) -> io::Result<()> {
+    four(rt, b"region to four", [4097, 170, 84, 3840])?;
+    four(rt, b"in the other order", [3840, 84, 170, 4097])?;
     region(
+        rt,
         b"by single sectors",
         &[1, 2, 4, 8, 16, 32, 64, 128, 256, 512, 1024, 2048, 4096],
-    );
-    region(b"in one", &[8191]);
-    region(b"no group", &[]);
+    )?;
+    region(rt, b"in one", &[8191])?;
+    region(rt, b"no group", &[])
 }
 
-fn no_partitions() {
-    four(b"a sector in no group", [4097, 170, 80, 3840]);
-    four(b"a sector in two groups", [4097, 171, 84, 3840]);
-    four(b"an empty group", [4097, 254, 0, 3840]);
-    four(b"a bit at n", [12289, 170, 84, 3840]);
-    four(b"the highest bit", [4097, 170, 84, 9223372036854779648]);
+fn no_partitions(rt: &impl Print) -> io::Result<()> {
+    four(rt, b"a sector in no group", [4097, 170, 80, 3840])?;
+    four(rt, b"a sector in two groups", [4097, 171, 84, 3840])?;
+    four(rt, b"an empty group", [4097, 254, 0, 3840])?;
+    four(rt, b"a bit at n", [12289, 170, 84, 3840])?;
+    four(rt, b"the highest bit", [4097, 170, 84, 9223372036854779648])
 }
 
 // Two sectors without flows, as one.
-fn two(name: &[u8], columns: [u64; 12], group: u64) {
-    table(name, &[0; 4], &columns, &[group]);
+fn two(rt: &impl Print, name: &[u8], columns: [u64; 12], group: u64) -> io::Result<()> {
+    table(rt, name, &[0; 4], &columns, &[group])
 }
 
 // They make 600,000,000 and another amount, for final demand.
-fn for_demand(name: &[u8], amount: u64, group: u64) {
+fn for_demand(rt: &impl Print, name: &[u8], amount: u64, group: u64) -> io::Result<()> {
     two(
+        rt,
         name,
         [
             600000000, amount, 0, 0, 0, 0, 600000000, amount, 600000000, amount, 0, 0,
         ],
         group,
-    );
+    )
 }
 
 // They sell abroad what they make, some of it by the adjustment item.
-fn abroad(name: &[u8], amount: u64) {
+fn abroad(rt: &impl Print, name: &[u8], amount: u64) -> io::Result<()> {
     two(
+        rt,
         name,
         [
             0, 0, 300000000, 0, 0, 0, 600000000, amount, 600000000, amount, 300000000, amount,
         ],
         3,
-    );
+    )
 }
 
 // They make nothing, and import for final demand.
-fn imported(name: &[u8], amount: u64) {
+fn imported(rt: &impl Print, name: &[u8], amount: u64) -> io::Result<()> {
     two(
+        rt,
         name,
         [600000000, amount, 0, 0, 600000000, amount, 0, 0, 0, 0, 0, 0],
         3,
-    );
+    )
 }
 
-fn limits() {
-    for_demand(b"at the limit", 400000000, 3);
-    for_demand(b"over the limit", 400000001, 3);
-    for_demand(b"over the limit, and a bit at n", 400000001, 7);
-    abroad(b"exports at the limit", 400000000);
-    abroad(b"exports over the limit", 400000001);
-    imported(b"imports over the limit", 400000001);
+fn limits(rt: &impl Print) -> io::Result<()> {
+    for_demand(rt, b"at the limit", 400000000, 3)?;
+    for_demand(rt, b"over the limit", 400000001, 3)?;
+    for_demand(rt, b"over the limit, and a bit at n", 400000001, 7)?;
+    abroad(rt, b"exports at the limit", 400000000)?;
+    abroad(rt, b"exports over the limit", 400000001)?;
+    imported(rt, b"imports over the limit", 400000001)
 }
 
 // Question 2 comes before 18, and so does 6.
-fn earlier_questions() {
-    table(b"more groups than sectors", &[0], &[0; 6], &[1, 0]);
+fn earlier_questions(rt: &impl Print) -> io::Result<()> {
+    table(rt, b"more groups than sectors", &[0], &[0; 6], &[1, 0])?;
     table(
+        rt,
         b"imports over need, and no sector",
         &[0],
         &[0, 10, 5, 5, 5, 0],
         &[0],
-    );
+    )
 }
 
-fn main() {
-    regions();
-    no_partitions();
-    limits();
-    earlier_questions();
+fn main(rt: HostRuntime) -> io::Result<()> {
+    regions(&rt)?;
+    no_partitions(&rt)?;
+    limits(&rt)?;
+    earlier_questions(&rt)
 }

@@ -5,6 +5,7 @@ use impact::impact;
 use inverse::inverse;
 use model::{PRICE_BUDGET, PRODUCTION_BUDGET};
 use production::{price, production};
+use std::io;
 use test_show::{show_end, show_outcome, show_word};
 
 // A ring of forty: each sector buys from the next alone, up to the limit of question 7.
@@ -26,71 +27,83 @@ fn uneven(amount: u64) -> [u64; 40] {
     start
 }
 
-fn produce(name: &[u8], budget: u32) {
+fn produce(rt: &impl Print, name: &[u8], budget: u32) -> io::Result<()> {
     let mut out = [7u64; 40];
     let mut work = [7u64; 40];
-    show_word(name);
-    show_outcome(production(
-        40,
-        &ring(),
-        &uneven(1999999980),
-        budget,
-        &mut out,
-        &mut work,
-    ));
-    show_end();
+    show_word(rt, name)?;
+    show_outcome(
+        rt,
+        production(
+            40,
+            &ring(),
+            &uneven(1999999980),
+            budget,
+            &mut out,
+            &mut work,
+        ),
+    )?;
+    show_end(rt)
 }
 
-fn rise(name: &[u8], budget: u32) {
+fn rise(rt: &impl Print, name: &[u8], budget: u32) -> io::Result<()> {
     let mut out = [7u64; 40];
     let mut work = [7u64; 40];
-    show_word(name);
-    show_outcome(price(40, &ring(), &uneven(999999980), budget, &mut out, &mut work));
-    show_end();
+    show_word(rt, name)?;
+    show_outcome(
+        rt,
+        price(40, &ring(), &uneven(999999980), budget, &mut out, &mut work),
+    )?;
+    show_end(rt)
 }
 
-fn compare(name: &[u8], budget: u32) {
+fn compare(rt: &impl Print, name: &[u8], budget: u32) -> io::Result<()> {
     let mut out = [7u64; 40];
     let mut work = [7u64; 40];
-    show_word(name);
-    show_outcome(impact(
-        40,
-        &ring(),
-        &[0; 40],
-        &uneven(1999999980),
-        budget,
-        &mut out,
-        &mut work,
-    ));
-    show_end();
+    show_word(rt, name)?;
+    show_outcome(
+        rt,
+        impact(
+            40,
+            &ring(),
+            &[0; 40],
+            &uneven(1999999980),
+            budget,
+            &mut out,
+            &mut work,
+        ),
+    )?;
+    show_end(rt)
 }
 
-fn invert(name: &[u8], budget: u32) {
+fn invert(rt: &impl Print, name: &[u8], budget: u32) -> io::Result<()> {
     let mut sheet = [7u64; 1600];
     let mut power = [7u64; 40];
     let mut sensitivity = [7u64; 40];
-    show_word(name);
-    show_outcome(inverse(
-        40,
-        &ring(),
-        budget,
-        &mut sheet,
-        &mut power,
-        &mut sensitivity,
-    ));
-    show_end();
+    show_word(rt, name)?;
+    show_outcome(
+        rt,
+        inverse(
+            40,
+            &ring(),
+            budget,
+            &mut sheet,
+            &mut power,
+            &mut sensitivity,
+        ),
+    )?;
+    show_end(rt)
 }
 
-fn main() {
-    produce(b"production", PRODUCTION_BUDGET);
-    produce(b"production least budget", 1189);
-    produce(b"production one round short", 1188);
-    rise(b"price", PRICE_BUDGET);
-    rise(b"price least budget", 1175);
-    rise(b"price one round short", 1174);
-    compare(b"scheme", PRODUCTION_BUDGET);
-    compare(b"scheme one round short", 1188);
-    invert(b"inverse", PRICE_BUDGET);
-    invert(b"inverse least budget", 256);
-    invert(b"inverse one round short", 255);
+fn main(rt: HostRuntime) -> io::Result<()> {
+    produce(&rt, b"production", PRODUCTION_BUDGET)?;
+    produce(&rt, b"production least budget", 1189)?;
+    produce(&rt, b"production one round short", 1188)?;
+    rise(&rt, b"price", PRICE_BUDGET)?;
+    rise(&rt, b"price least budget", 1175)?;
+    rise(&rt, b"price one round short", 1174)?;
+    compare(&rt, b"scheme", PRODUCTION_BUDGET)?;
+    compare(&rt, b"scheme one round short", 1188)?;
+    invert(&rt, b"inverse", PRICE_BUDGET)?;
+    invert(&rt, b"inverse least budget", 256)?;
+    invert(&rt, b"inverse one round short", 255)
 }

@@ -1,6 +1,6 @@
 // `roadsheet` on an input that is longer than its buffer.
 #![tactic(auto)]
 
-fn main() {
-    program::run();
+fn main(rt: HostRuntime) {
+    program::run(&rt);
 }

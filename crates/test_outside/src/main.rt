@@ -9,24 +9,25 @@ use inverse::inverse;
 use model::{PRICE_BUDGET, PRODUCTION_BUDGET};
 use production::production;
 use shares::{portion_of, share_of};
+use std::io;
 use test_show::{
     show_answer, show_end, show_first, show_first_signed, show_outcome, show_slices, show_three,
     show_word,
 };
 
-fn show_line(name: &[u8], cells: &[u64]) {
-    show_word(name);
-    show_first(cells);
-    show_end();
+fn show_line(rt: &impl Print, name: &[u8], cells: &[u64]) -> io::Result<()> {
+    show_word(rt, name)?;
+    show_first(rt, cells)?;
+    show_end(rt)
 }
 
-fn show_triple(name: &[u8], cells: [u64; 3]) {
-    show_line(name, &cells);
+fn show_triple(rt: &impl Print, name: &[u8], cells: [u64; 3]) -> io::Result<()> {
+    show_line(rt, name, &cells)
 }
 
-fn show_shares(m: [u64; 3], v: [u64; 3]) {
-    show_triple(b"import shares", m);
-    show_triple(b"value shares", v);
+fn show_shares(rt: &impl Print, m: [u64; 3], v: [u64; 3]) -> io::Result<()> {
+    show_triple(rt, b"import shares", m)?;
+    show_triple(rt, b"value shares", v)
 }
 
 // What an import share leaves of an amount or of an input coefficient; 0 where the share is over one or the amount over its limit.
@@ -58,40 +59,54 @@ fn domestic_demand(m: [u64; 3], fin: [u64; 3]) -> [u64; 3] {
 }
 
 // The inverse, and after bars its influence and sensitivity ratios.
-fn invert(d: [u64; 9]) {
+fn invert(rt: &impl Print, d: [u64; 9]) -> io::Result<()> {
     let mut sheet = [7u64; 9];
     let mut power = [7u64; 3];
     let mut sensitivity = [7u64; 3];
-    show_word(b"inverse");
-    show_outcome(inverse(
-        3,
-        &d,
-        PRICE_BUDGET,
-        &mut sheet,
-        &mut power,
-        &mut sensitivity,
-    ));
-    show_three(&sheet, &power, &sensitivity);
+    show_word(rt, b"inverse")?;
+    show_outcome(
+        rt,
+        inverse(
+            3,
+            &d,
+            PRICE_BUDGET,
+            &mut sheet,
+            &mut power,
+            &mut sensitivity,
+        ),
+    )?;
+    show_three(rt, &sheet, &power, &sensitivity)
 }
 
 // The production that a demand for domestic goods settles at.
-fn produce(d: [u64; 9], f: [u64; 3]) -> [u64; 3] {
+fn produce(rt: &impl Print, d: [u64; 9], f: [u64; 3]) -> io::Result<[u64; 3]> {
     let mut y = [7u64; 3];
     let mut work = [7u64; 3];
-    show_outcome(production(3, &d, &f, PRODUCTION_BUDGET, &mut y, &mut work));
-    y
+    show_outcome(
+        rt,
+        production(3, &d, &f, PRODUCTION_BUDGET, &mut y, &mut work),
+    )?;
+    Ok(y)
 }
 
 // A production, and after bars the value added and the imports that it induces.
-fn show_induced(a: &[u64], m: &[u64], v: &[u64], fin: &[u64], y: &[u64]) {
+fn show_induced(
+    rt: &impl Print,
+    a: &[u64],
+    m: &[u64],
+    v: &[u64],
+    fin: &[u64],
+    y: &[u64],
+) -> io::Result<()> {
     let mut value = [7u64; 3];
     let mut imports = [7u64; 3];
-    show_answer(induced(3, a, m, v, fin, y, &mut value, &mut imports));
-    show_three(y, &value, &imports);
+    show_answer(rt, induced(3, a, m, v, fin, y, &mut value, &mut imports))?;
+    show_three(rt, y, &value, &imports)
 }
 
 // The production of a demand for domestic goods, and what it induces.
 fn induce(
+    rt: &impl Print,
     name: &[u8],
     a: [u64; 9],
     v: [u64; 3],
@@ -99,30 +114,39 @@ fn induce(
     d: [u64; 9],
     fin: [u64; 3],
     f: [u64; 3],
-) {
-    show_word(name);
-    let y = produce(d, f);
-    show_induced(&a, &m, &v, &fin, &y);
+) -> io::Result<()> {
+    show_word(rt, name)?;
+    let y = produce(rt, d, f)?;
+    show_induced(rt, &a, &m, &v, &fin, &y)
 }
 
 // The same for a final demand inside the region, of which the import shares leave a part.
-fn induce_inside(name: &[u8], a: [u64; 9], v: [u64; 3], m: [u64; 3], d: [u64; 9], fin: [u64; 3]) {
+fn induce_inside(
+    rt: &impl Print,
+    name: &[u8],
+    a: [u64; 9],
+    v: [u64; 3],
+    m: [u64; 3],
+    d: [u64; 9],
+    fin: [u64; 3],
+) -> io::Result<()> {
     let f = domestic_demand(m, fin);
-    show_triple(b"demand for domestic goods", f);
-    induce(name, a, v, m, d, fin, f);
+    show_triple(rt, b"demand for domestic goods", f)?;
+    induce(rt, name, a, v, m, d, fin, f)
 }
 
 // The demand for domestic goods behind a production.
-fn imply(d: [u64; 9], y: [u64; 3]) {
+fn imply(rt: &impl Print, d: [u64; 9], y: [u64; 3]) -> io::Result<()> {
     let mut f = [7i64; 3];
-    show_word(b"demand behind production");
-    show_answer(implied_demand(3, &d, &y, &mut f));
-    show_first_signed(&f);
-    show_end();
+    show_word(rt, b"demand behind production")?;
+    show_answer(rt, implied_demand(3, &d, &y, &mut f))?;
+    show_first_signed(rt, &f)?;
+    show_end(rt)
 }
 
 // Consumption, investment and exports.
 fn demands(
+    rt: &impl Print,
     a: [u64; 9],
     v: [u64; 3],
     m: [u64; 3],
@@ -130,15 +154,22 @@ fn demands(
     consumption: [u64; 3],
     investment: [u64; 3],
     exports: [u64; 3],
-) {
-    induce_inside(b"consumption", a, v, m, d, consumption);
-    induce_inside(b"investment", a, v, m, d, investment);
-    induce(b"exports", a, v, m, d, [0; 3], exports);
+) -> io::Result<()> {
+    induce_inside(rt, b"consumption", a, v, m, d, consumption)?;
+    induce_inside(rt, b"investment", a, v, m, d, investment)?;
+    induce(rt, b"exports", a, v, m, d, [0; 3], exports)
 }
 
 // Those of table 3-1, and its production, first in 100 million yen as printed, then the same amounts in million yen.
-fn printed_demands(a: [u64; 9], v: [u64; 3], m: [u64; 3], d: [u64; 9]) {
+fn printed_demands(
+    rt: &impl Print,
+    a: [u64; 9],
+    v: [u64; 3],
+    m: [u64; 3],
+    d: [u64; 9],
+) -> io::Result<()> {
     demands(
+        rt,
         a,
         v,
         m,
@@ -146,10 +177,11 @@ fn printed_demands(a: [u64; 9], v: [u64; 3], m: [u64; 3], d: [u64; 9]) {
         [510, 5050, 27347],
         [111, 6759, 1747],
         [1753, 11767, 1931],
-    );
-    imply(d, [3990, 18644, 41103]);
-    show_word(b"as printed, in million yen\n");
+    )?;
+    imply(rt, d, [3990, 18644, 41103])?;
+    show_word(rt, b"as printed, in million yen\n")?;
     demands(
+        rt,
         a,
         v,
         m,
@@ -157,8 +189,8 @@ fn printed_demands(a: [u64; 9], v: [u64; 3], m: [u64; 3], d: [u64; 9]) {
         [51000, 505000, 2734700],
         [11100, 675900, 174700],
         [175300, 1176700, 193100],
-    );
-    imply(d, [399000, 1864400, 4110300]);
+    )?;
+    imply(rt, d, [399000, 1864400, 4110300])
 }
 
 // Table 3-1 as printed: a and v by production, m by domestic need, d by a and m.
@@ -192,20 +224,20 @@ fn printed_imports() -> [u64; 3] {
     ]
 }
 
-fn printed_table() {
+fn printed_table(rt: &impl Print) -> io::Result<()> {
     let a = printed_inputs();
     let v = printed_values();
     let m = printed_imports();
     let d = domestic_sheet(m, a);
-    show_word(b"as printed, in 100 million yen\n");
-    show_shares(m, v);
-    show_domestic(d);
-    invert(d);
-    printed_demands(a, v, m, d);
+    show_word(rt, b"as printed, in 100 million yen\n")?;
+    show_shares(rt, m, v)?;
+    show_domestic(rt, d)?;
+    invert(rt, d)?;
+    printed_demands(rt, a, v, m, d)
 }
 
-fn show_domestic(d: [u64; 9]) {
-    show_line(b"domestic coefficients", &d);
+fn show_domestic(rt: &impl Print, d: [u64; 9]) -> io::Result<()> {
+    show_line(rt, b"domestic coefficients", &d)
 }
 
 // A table in million yen that balances: every amount rounds to the one that table 3-1 prints, and its adjustment item is 3,484.
@@ -213,9 +245,10 @@ const FLOWS: [u64; 9] = [
     49220, 210897, 10381, 106893, 574425, 399811, 70886, 426032, 942564,
 ];
 
-fn finer_table() {
-    show_word(b"finer table, in million yen");
+fn finer_table(rt: &impl Print) -> io::Result<()> {
+    show_word(rt, b"finer table, in million yen")?;
     finer_sheets(
+        rt,
         &FLOWS,
         &[62024, 1180883, 2909405],
         &[175295, 1176676, 193114],
@@ -223,10 +256,11 @@ fn finer_table() {
         &[171988, 653055, 2757562],
         &[398987, 1864409, 4110318],
         &[0, 3484, 0],
-    );
+    )
 }
 
 fn finer_sheets(
+    rt: &impl Print,
     x: &[u64],
     fin: &[u64],
     e: &[u64],
@@ -234,25 +268,36 @@ fn finer_sheets(
     value: &[u64],
     p: &[u64],
     g: &[u64],
-) {
+) -> io::Result<()> {
     let mut a = [7u64; 9];
     let mut v = [7u64; 3];
     let mut m = [7u64; 3];
     let mut d = [7u64; 9];
     let mut f = [7u64; 3];
-    show_answer(coefficients(
-        3, x, fin, e, imports, value, p, g, &mut a, &mut v, &mut m, &mut d, &mut f,
-    ));
-    finer_demands(a, v, m, d, f);
+    show_answer(
+        rt,
+        coefficients(
+            3, x, fin, e, imports, value, p, g, &mut a, &mut v, &mut m, &mut d, &mut f,
+        ),
+    )?;
+    finer_demands(rt, a, v, m, d, f)
 }
 
-fn finer_demands(a: [u64; 9], v: [u64; 3], m: [u64; 3], d: [u64; 9], f: [u64; 3]) {
-    show_end();
-    show_shares(m, v);
-    show_triple(b"demand for domestic goods", f);
-    invert(d);
-    induce(b"all", a, v, m, d, [62024, 1180883, 2909405], f);
+fn finer_demands(
+    rt: &impl Print,
+    a: [u64; 9],
+    v: [u64; 3],
+    m: [u64; 3],
+    d: [u64; 9],
+    f: [u64; 3],
+) -> io::Result<()> {
+    show_end(rt)?;
+    show_shares(rt, m, v)?;
+    show_triple(rt, b"demand for domestic goods", f)?;
+    invert(rt, d)?;
+    induce(rt, b"all", a, v, m, d, [62024, 1180883, 2909405], f)?;
     demands(
+        rt,
         a,
         v,
         m,
@@ -260,7 +305,7 @@ fn finer_demands(a: [u64; 9], v: [u64; 3], m: [u64; 3], d: [u64; 9], f: [u64; 3]
         [50969, 504979, 2734698],
         [11055, 675904, 174707],
         [175295, 1176676, 193114],
-    );
+    )
 }
 
 // Document 001, part III, fifteen sectors: what of a production goes to employees.
@@ -300,26 +345,33 @@ const PRODUCTION_3: [u64; 15] = [
 ];
 
 // The pay of employees at a production, with its rates for value shares, and after a bar what of the demand is imported.
-fn pay(name: &[u8], fin: [u64; 15], y: [u64; 15]) {
-    show_word(name);
-    show_pay(&[0; 225], &IMPORTED, &PAY, &fin, &y);
+fn pay(rt: &impl Print, name: &[u8], fin: [u64; 15], y: [u64; 15]) -> io::Result<()> {
+    show_word(rt, name)?;
+    show_pay(rt, &[0; 225], &IMPORTED, &PAY, &fin, &y)
 }
 
-fn show_pay(a: &[u64], m: &[u64], v: &[u64], fin: &[u64], y: &[u64]) {
+fn show_pay(
+    rt: &impl Print,
+    a: &[u64],
+    m: &[u64],
+    v: &[u64],
+    fin: &[u64],
+    y: &[u64],
+) -> io::Result<()> {
     let mut value = [7u64; 15];
     let mut imports = [7u64; 15];
-    show_answer(induced(15, a, m, v, fin, y, &mut value, &mut imports));
-    show_slices(&value, &imports);
+    show_answer(rt, induced(15, a, m, v, fin, y, &mut value, &mut imports))?;
+    show_slices(rt, &value, &imports)
 }
 
-fn examples() {
-    pay(b"example 1, case 1", DEMAND_1, PRODUCTION_1);
-    pay(b"example 2, case 1", DEMAND_2, PRODUCTION_2);
-    pay(b"example 3", [0; 15], PRODUCTION_3);
+fn examples(rt: &impl Print) -> io::Result<()> {
+    pay(rt, b"example 1, case 1", DEMAND_1, PRODUCTION_1)?;
+    pay(rt, b"example 2, case 1", DEMAND_2, PRODUCTION_2)?;
+    pay(rt, b"example 3", [0; 15], PRODUCTION_3)
 }
 
-fn main() {
-    printed_table();
-    finer_table();
-    examples();
+fn main(rt: HostRuntime) -> io::Result<()> {
+    printed_table(&rt)?;
+    finer_table(&rt)?;
+    examples(&rt)
 }

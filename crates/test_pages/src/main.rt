@@ -2,10 +2,11 @@
 // before its page.
 #![tactic(auto)]
 
-ghost use Rattle.std.specs.Prelude.{◌≤◌, ◌<◌, length};
+ghost use Rattle.std.specs.Prelude.{◌≤◌, ◌<◌, IfOk, length};
 
-use libc::{STDIN_FILENO, STDOUT_FILENO};
 use program::print_page;
+use std::io;
+use std::io::Read;
 
 fn wide(b: u8) -> usize
     ensures { result < 256 }
@@ -14,34 +15,49 @@ fn wide(b: u8) -> usize
 }
 
 // The page of the file at an offset, and the offset after it; a file that is cut ends the input.
-fn print_case(input: &[u8], at: usize) -> usize
+fn print_case(rt: &(impl Print + Eprint), input: &[u8], at: usize) -> io::Result<usize>
     requires { at < length input.now }
-    ensures { (at < result) × (result ≤ length input.now) }
+    ensures { IfOk result (λ end. (at < end) × (end ≤ length input.now)) }
 {
     if input.len() - at < 2 {
-        return input.len();
+        return Ok(input.len());
     }
     let size = wide(input[at]) * 256 + wide(input[at + 1]);
     let start = at + 2;
     if input.len() - start < size {
-        return input.len();
+        return Ok(input.len());
     }
     let end = start + size;
-    io::print_decimal(STDOUT_FILENO, size as u64);
-    io::write_all(STDOUT_FILENO, b" bytes\n");
-    print_page(&input[start..end]);
-    end
+    println!(rt; "{size} bytes")?;
+    print_page(rt, &input[start..end]);
+    Ok(end)
 }
 
-fn print_cases(input: &[u8]) {
+fn print_cases(rt: &(impl Print + Eprint), input: &[u8]) -> io::Result<()> {
     let mut at = 0;
     while at < input.len() {
-        at = print_case(input, at);
+        at = print_case(rt, input, at)?;
     }
+    Ok(())
 }
 
-fn main() {
-    let mut buffer = io::large_buffer();
-    let count = io::read_full(STDIN_FILENO, &mut buffer);
-    print_cases(&buffer[..count]);
+// Reads until the buffer is full or the input ends: how many bytes came.
+fn read_full<R: Read>(reader: &mut R, buffer: &mut [u8]) -> io::Result<usize>
+    ensures { IfOk result (λ count. count ≤ length buffer.old) }
+{
+    let mut count = 0;
+    while count < buffer.len() {
+        let more = reader.read(&mut buffer[count..])?;
+        if more == 0 {
+            return Ok(count);
+        }
+        count += more;
+    }
+    Ok(count)
+}
+
+fn main(rt: HostRuntime) -> io::Result<()> {
+    let mut buffer = [0u8; 65536];
+    let count = read_full(&mut rt.reader(), &mut buffer)?;
+    print_cases(&rt, &buffer[..count])
 }

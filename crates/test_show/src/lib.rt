@@ -1,69 +1,68 @@
 // Printing for the test programs: answers, cells and bytes.
 #![tactic(auto)]
 
-use io::print_decimal;
-use libc::STDOUT_FILENO;
 use model::{Answer, Outcome, TableRead, TableWritten};
+use std::io;
 
-pub fn show_outcome(outcome: Outcome) {
+pub fn show_outcome(rt: &impl Print, outcome: Outcome) -> io::Result<()> {
     match outcome {
         Outcome::Settled { rounds } => {
-            show_word(b" rounds");
-            show_cell(rounds as u64);
+            show_word(rt, b" rounds")?;
+            show_cell(rt, rounds as u64)
         }
-        Outcome::Refused { number, place } => show_refusal(number, place),
+        Outcome::Refused { number, place } => show_refusal(rt, number, place),
     }
 }
 
-pub fn show_answer(answer: Answer) {
+pub fn show_answer(rt: &impl Print, answer: Answer) -> io::Result<()> {
     match answer {
-        Answer::Accepted => show_word(b" accepted"),
-        Answer::Refused { number, place } => show_refusal(number, place),
+        Answer::Accepted => show_word(rt, b" accepted"),
+        Answer::Refused { number, place } => show_refusal(rt, number, place),
     }
 }
 
 // The writer's answer; the length of the file, 0 if there is none.
-pub fn show_written(answer: TableWritten) -> usize {
+pub fn show_written(rt: &impl Print, answer: TableWritten) -> io::Result<usize> {
     match answer {
         TableWritten::Written { length } => {
-            show_word(b" written");
-            show_cell(length as u64);
-            length
+            show_word(rt, b" written")?;
+            show_cell(rt, length as u64)?;
+            Ok(length)
         }
         TableWritten::Refused { number, place } => {
-            show_refusal(number, place);
-            0
+            show_refusal(rt, number, place)?;
+            Ok(0)
         }
     }
 }
 
 // The reader's answer: n and how many cells were named.
-pub fn show_read(answer: TableRead) {
+pub fn show_read(rt: &impl Print, answer: TableRead) -> io::Result<()> {
     match answer {
         TableRead::Read { sectors, named } => {
-            show_word(b" read");
-            show_cell(sectors as u64);
-            show_cell(named as u64);
+            show_word(rt, b" read")?;
+            show_cell(rt, sectors as u64)?;
+            show_cell(rt, named as u64)
         }
-        TableRead::Refused { number, place } => show_refusal(number, place),
+        TableRead::Refused { number, place } => show_refusal(rt, number, place),
     }
 }
 
-fn show_refusal(number: u8, place: usize) {
-    show_word(b" refused");
-    show_cell(number as u64);
-    show_cell(place as u64);
+fn show_refusal(rt: &impl Print, number: u8, place: usize) -> io::Result<()> {
+    show_word(rt, b" refused")?;
+    show_cell(rt, number as u64)?;
+    show_cell(rt, place as u64)
 }
 
-fn show_cell(cell: u64) {
-    show_word(b" ");
-    print_decimal(STDOUT_FILENO, cell);
+fn show_cell(rt: &impl Print, cell: u64) -> io::Result<()> {
+    print!(rt; " {cell}")
 }
 
-pub fn show_cells(cells: &[u64]) {
+pub fn show_cells(rt: &impl Print, cells: &[u64]) -> io::Result<()> {
     for i in 0..cells.len() {
-        show_cell(cells[i]);
+        show_cell(rt, cells[i])?;
     }
+    Ok(())
 }
 
 // How far a number is from 0.
@@ -75,90 +74,99 @@ fn magnitude(cell: i64) -> u64 {
 }
 
 // A signed cell, with `-` before one that is below 0.
-fn show_signed_cell(cell: i64) {
-    show_word(b" ");
+fn show_signed_cell(rt: &impl Print, cell: i64) -> io::Result<()> {
+    show_word(rt, b" ")?;
     if cell < 0 {
-        show_word(b"-");
+        show_word(rt, b"-")?;
     }
-    print_decimal(STDOUT_FILENO, magnitude(cell));
+    rt.print(magnitude(cell))
 }
 
-fn show_signed_cells(cells: &[i64]) {
+fn show_signed_cells(rt: &impl Print, cells: &[i64]) -> io::Result<()> {
     for i in 0..cells.len() {
-        show_signed_cell(cells[i]);
+        show_signed_cell(rt, cells[i])?;
     }
+    Ok(())
 }
 
-fn show_byte(byte: u8) {
-    show_cell(byte as u64);
+fn show_byte(rt: &impl Print, byte: u8) -> io::Result<()> {
+    show_cell(rt, byte as u64)
 }
 
 // So many bytes, and what the others hold together, by `or`.
-fn show_start(bytes: &[u8], count: usize) -> u8 {
+fn show_start(rt: &impl Print, bytes: &[u8], count: usize) -> io::Result<u8> {
     let mut rest = 0u8;
     for i in 0..bytes.len() {
         if i < count {
-            show_byte(bytes[i]);
+            show_byte(rt, bytes[i])?;
         } else {
             rest = rest | bytes[i];
         }
     }
-    rest
+    Ok(rest)
 }
 
 // A line's end: so many bytes after a colon, and what the others hold together after a bar.
-pub fn show_bytes(bytes: &[u8], count: usize) {
-    show_word(b":");
-    let rest = show_start(bytes, count);
-    show_word(b" |");
-    show_byte(rest);
-    show_end();
+pub fn show_bytes(rt: &impl Print, bytes: &[u8], count: usize) -> io::Result<()> {
+    show_word(rt, b":")?;
+    let rest = show_start(rt, bytes, count)?;
+    show_word(rt, b" |")?;
+    show_byte(rt, rest)?;
+    show_end(rt)
 }
 
 // A word.
-pub fn show_word(word: &[u8]) {
-    io::write_all(STDOUT_FILENO, word);
+pub fn show_word(rt: &impl Print, word: &[u8]) -> io::Result<()> {
+    rt.write_all(word)
 }
 
 // The first cells of a line, after a colon.
-pub fn show_first(cells: &[u64]) {
-    show_word(b":");
-    show_cells(cells);
+pub fn show_first(rt: &impl Print, cells: &[u64]) -> io::Result<()> {
+    show_word(rt, b":")?;
+    show_cells(rt, cells)
 }
 
 // Further cells, after a bar.
-pub fn show_more(cells: &[u64]) {
-    show_word(b" |");
-    show_cells(cells);
+pub fn show_more(rt: &impl Print, cells: &[u64]) -> io::Result<()> {
+    show_word(rt, b" |")?;
+    show_cells(rt, cells)
 }
 
 // The same of signed cells.
-pub fn show_first_signed(cells: &[i64]) {
-    show_word(b":");
-    show_signed_cells(cells);
+pub fn show_first_signed(rt: &impl Print, cells: &[i64]) -> io::Result<()> {
+    show_word(rt, b":")?;
+    show_signed_cells(rt, cells)
 }
 
-pub fn show_more_signed(cells: &[i64]) {
-    show_word(b" |");
-    show_signed_cells(cells);
+pub fn show_more_signed(rt: &impl Print, cells: &[i64]) -> io::Result<()> {
+    show_word(rt, b" |")?;
+    show_signed_cells(rt, cells)
 }
 
-pub fn show_end() {
-    show_word(b"\n");
+pub fn show_end(rt: &impl Print) -> io::Result<()> {
+    show_word(rt, b"\n")
 }
 
 // The five sheets of a table, parted by bars.
-pub fn show_sheets(a: &[u64], v: &[u64], m: &[u64], d: &[u64], f: &[u64]) {
-    show_first(a);
-    show_more(v);
-    show_more(m);
-    show_more(d);
-    show_more(f);
-    show_end();
+pub fn show_sheets(
+    rt: &impl Print,
+    a: &[u64],
+    v: &[u64],
+    m: &[u64],
+    d: &[u64],
+    f: &[u64],
+) -> io::Result<()> {
+    show_first(rt, a)?;
+    show_more(rt, v)?;
+    show_more(rt, m)?;
+    show_more(rt, d)?;
+    show_more(rt, f)?;
+    show_end(rt)
 }
 
 // A table's flows and columns and a column more, parted by bars.
 pub fn show_table(
+    rt: &impl Print,
     x: &[u64],
     f: &[u64],
     e: &[u64],
@@ -167,29 +175,29 @@ pub fn show_table(
     p: &[u64],
     g: &[u64],
     last: &[u64],
-) {
-    show_first(x);
-    show_more(f);
-    show_more(e);
-    show_more(m);
-    show_more(v);
-    show_more(p);
-    show_more(g);
-    show_more(last);
-    show_end();
+) -> io::Result<()> {
+    show_first(rt, x)?;
+    show_more(rt, f)?;
+    show_more(rt, e)?;
+    show_more(rt, m)?;
+    show_more(rt, v)?;
+    show_more(rt, p)?;
+    show_more(rt, g)?;
+    show_more(rt, last)?;
+    show_end(rt)
 }
 
 // The outputs, and after a bar the work cells or further outputs.
-pub fn show_slices(out: &[u64], work: &[u64]) {
-    show_first(out);
-    show_more(work);
-    show_end();
+pub fn show_slices(rt: &impl Print, out: &[u64], work: &[u64]) -> io::Result<()> {
+    show_first(rt, out)?;
+    show_more(rt, work)?;
+    show_end(rt)
 }
 
 // The same with outputs after two bars.
-pub fn show_three(out: &[u64], second: &[u64], third: &[u64]) {
-    show_first(out);
-    show_more(second);
-    show_more(third);
-    show_end();
+pub fn show_three(rt: &impl Print, out: &[u64], second: &[u64], third: &[u64]) -> io::Result<()> {
+    show_first(rt, out)?;
+    show_more(rt, second)?;
+    show_more(rt, third)?;
+    show_end(rt)
 }
