@@ -5,7 +5,7 @@ use Rattle.c_reader.proofs.tawqeshim_read_table.Statement.{statement}
 use Rattle.c_reader.proofs.tawqeshim_read_table.Tie as tie
 
 returns : tie.Need-returns
-returns c = read_told c.tell-read.ensures c.before.before.before.before.before.before.before.before.before.before.before.before.before.before.before.before.before.before.before.before.before.before.before.read_table.ensures
+returns c = read_told c.tell_read.ensures c.read_table-answer.ensures
 
 pub tawqeshim_read_table_spec : {M : Type 1} → statement M
 tawqeshim_read_table_spec =

@@ -5,7 +5,7 @@ use Rattle.c_rounds.proofs.tawqeshim_impact.Statement.{statement}
 use Rattle.c_rounds.proofs.tawqeshim_impact.Tie as tie
 
 returns : tie.Need-returns
-returns c = compared_told c.tell-outcome.ensures c.before.before.before.before.before.before.before.before.impact.ensures
+returns c = compared_told c.tell_outcome.ensures c.impact-outcome.ensures
 
 pub tawqeshim_impact_spec : {M : Type 1} → statement M
 tawqeshim_impact_spec =

@@ -5,7 +5,7 @@ use Rattle.c_rounds.proofs.tawqeshim_price.Statement.{statement}
 use Rattle.c_rounds.proofs.tawqeshim_price.Tie as tie
 
 returns : tie.Need-returns
-returns c = priced_told c.tell-outcome.ensures c.before.before.before.before.before.before.before.before.price.ensures
+returns c = priced_told c.tell_outcome.ensures c.price-outcome.ensures
 
 pub tawqeshim_price_spec : {M : Type 1} → statement M
 tawqeshim_price_spec =

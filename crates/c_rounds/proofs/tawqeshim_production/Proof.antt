@@ -5,7 +5,7 @@ use Rattle.c_rounds.proofs.tawqeshim_production.Statement.{statement}
 use Rattle.c_rounds.proofs.tawqeshim_production.Tie as tie
 
 returns : tie.Need-returns
-returns c = produced_told c.tell-outcome.ensures c.before.before.before.before.before.before.before.before.production.ensures
+returns c = produced_told c.tell_outcome.ensures c.production-outcome.ensures
 
 pub tawqeshim_production_spec : {M : Type 1} → statement M
 tawqeshim_production_spec =

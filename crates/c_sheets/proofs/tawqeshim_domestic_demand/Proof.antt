@@ -5,7 +5,7 @@ use Rattle.c_sheets.proofs.tawqeshim_domestic_demand.Statement.{statement}
 use Rattle.c_sheets.proofs.tawqeshim_domestic_demand.Tie as tie
 
 returns : tie.Need-returns
-returns c = demanded_told c.tell-answer.ensures c.before.before.before.before.before.domestic-demand.ensures
+returns c = demanded_told c.tell_answer.ensures c.domestic_demand-answer.ensures
 
 pub tawqeshim_domestic_demand_spec : {M : Type 1} → statement M
 tawqeshim_domestic_demand_spec =

@@ -5,7 +5,7 @@ use Rattle.c_sheets.proofs.tawqeshim_implied_demand.Statement.{statement}
 use Rattle.c_sheets.proofs.tawqeshim_implied_demand.Tie as tie
 
 returns : tie.Need-returns
-returns c = implied_told c.tell-answer.ensures c.before.before.before.before.implied-demand.ensures
+returns c = implied_told c.tell_answer.ensures c.implied_demand-answer.ensures
 
 pub tawqeshim_implied_demand_spec : {M : Type 1} → statement M
 tawqeshim_implied_demand_spec =

@@ -5,7 +5,7 @@ use Rattle.c_sheets.proofs.tawqeshim_induced.Statement.{statement}
 use Rattle.c_sheets.proofs.tawqeshim_induced.Tie as tie
 
 returns : tie.Need-returns
-returns c = induced_told c.tell-answer.ensures c.before.before.before.before.before.before.before.induced.ensures
+returns c = induced_told c.tell_answer.ensures c.induced-answer.ensures
 
 pub tawqeshim_induced_spec : {M : Type 1} → statement M
 tawqeshim_induced_spec =

@@ -5,7 +5,7 @@ use Rattle.c_sheets.proofs.tawqeshim_inverse.Statement.{statement}
 use Rattle.c_sheets.proofs.tawqeshim_inverse.Tie as tie
 
 returns : tie.Need-returns
-returns c = inverted_told c.tell-outcome.ensures c.before.before.before.before.before.before.before.before.before.before.inverse.ensures
+returns c = inverted_told c.tell_outcome.ensures c.inverse-outcome.ensures
 
 pub tawqeshim_inverse_spec : {M : Type 1} → statement M
 tawqeshim_inverse_spec =

@@ -5,7 +5,7 @@ use Rattle.c_tables.proofs.tawqeshim_aggregate.Statement.{statement}
 use Rattle.c_tables.proofs.tawqeshim_aggregate.Tie as tie
 
 returns : tie.Need-returns
-returns c = aggregated_told c.tell-answer.ensures c.before.before.before.before.before.before.before.before.before.before.before.before.before.before.before.before.before.before.before.aggregate.ensures
+returns c = aggregated_told c.tell_answer.ensures c.aggregate-answer.ensures
 
 pub tawqeshim_aggregate_spec : {M : Type 1} → statement M
 tawqeshim_aggregate_spec =

@@ -5,7 +5,7 @@ use Rattle.c_tables.proofs.tawqeshim_coefficients.Statement.{statement}
 use Rattle.c_tables.proofs.tawqeshim_coefficients.Tie as tie
 
 returns : tie.Need-returns
-returns c = derived_told c.tell-answer.ensures c.before.before.before.before.before.before.before.before.before.before.before.before.before.coefficients.ensures
+returns c = derived_told c.tell_answer.ensures c.coefficients-answer.ensures
 
 pub tawqeshim_coefficients_spec : {M : Type 1} → statement M
 tawqeshim_coefficients_spec =

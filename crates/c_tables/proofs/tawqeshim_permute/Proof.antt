@@ -5,7 +5,7 @@ use Rattle.c_tables.proofs.tawqeshim_permute.Statement.{statement}
 use Rattle.c_tables.proofs.tawqeshim_permute.Tie as tie
 
 returns : tie.Need-returns
-returns c = permuted_told c.tell-answer.ensures c.before.before.before.before.before.before.before.before.before.before.before.before.before.before.before.before.before.before.before.permute.ensures
+returns c = permuted_told c.tell_answer.ensures c.permute-answer.ensures
 
 pub tawqeshim_permute_spec : {M : Type 1} → statement M
 tawqeshim_permute_spec =

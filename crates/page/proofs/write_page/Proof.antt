@@ -9,21 +9,19 @@ use Rattle.page.proofs.Buffers.{call_stop, call_on}
 use Rattle.page.proofs.write_page.Statement.{statement}
 use Rattle.page.proofs.write_page.Tie as tie
 
-returns : tie.Need-returns
+returns : tie.Need-returns-then-out-ne-PAGE
 returns c =
-    let a = c.before.before.before.before.before.before.before.args in
-    let q = c.before.before.before in
-    call_stop a.file.now a.out.now (λ e. c.if1.true (q.clear-bytes.auto.0 ∙ e)) q.clear-bytes.ensures
+    let a = c.args in
+    call_stop a.file.now a.out.now (λ e. c.if-out-ne-PAGE.true (c.clear_bytes.auto.out ∙ e)) c.clear_bytes.ensures
 
-file-page-requires : tie.Need-file-page-requires
-file-page-requires c κs = omega (arith, page-fits c.before.before.before.before.before.before.before.before.args.file.now, c.before.if1.false)
+file-page-requires : tie.Need-file_page-length-requires
+file-page-requires c κs = omega (arith, page-fits c.args.file.now, c.if-out-ne-PAGE.false)
 
-returns-2 : tie.Need-returns-2
+returns-2 : tie.Need-returns
 returns-2 c =
-    let a = c.before.before.before.before.before.before.before.before.before.before.before.args in
-    let q = c.before.before.before.before.before.before.before in
-    let long : length a.out.now ≡ page_limit = sym q.clear-bytes.auto.0 ∙ c.before.before.before.before.if1.false in
-    call_on a.file.now a.out.now long q.clear-bytes.ensures c.before.before.file-page.ensures
+    let a = c.args in
+    let long : length a.out.now ≡ page_limit = sym c.clear_bytes.auto.out ∙ c.if-out-ne-PAGE.false in
+    call_on a.file.now a.out.now long c.clear_bytes.ensures c.file_page-length.ensures
 
 pub write_page_spec : {M : Type 1} → statement M
 write_page_spec =

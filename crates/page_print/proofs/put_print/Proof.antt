@@ -17,11 +17,11 @@ abbrev text : tie.Start → Print → List ℕ
 text s r = let a = s.args in text_of r a.f.now a.y.now a.value.now a.imports.now
 
 -- the text that each arm writes
-stops : (k : tie.In-Refusal-2) → let s = k.before.before.before.before.before.before in refusal_line k.in-Refusal.number k.in-Refusal.place ≡ text s s.args.print
+stops : (k : tie.In-Refusal) → let s = k.before.before.before.before.before.before in refusal_line k.in-Refusal.number k.in-Refusal.place ≡ text s s.args.print
 stops k = sym (ap (text k.before.before.before.before.before.before) k.in-Refusal.is)
 
 goes_on :
-    (k : tie.In-Sheet-2) →
+    (k : tie.In-Sheet) →
     let s = k.before.before.before.before.before.before in
     let a = s.args in
     let n = k.in-Sheet.sectors in
@@ -31,7 +31,7 @@ goes_on k =
     let a = s.args in
     sheet_part k.in-Sheet.sectors a.f.now a.y.now a.value.now a.imports.now k.in-Sheet.rounds ∙ sym (ap (text s) k.in-Sheet.is)
 
-few : (k : tie.In-Sheet-2) → k.in-Sheet.sectors ≤ sector_limit
+few : (k : tie.In-Sheet) → k.in-Sheet.sectors ≤ sector_limit
 few k = subst Few k.in-Sheet.is k.requires.0.0
 
 returns : tie.Need-returns-in-Refusal
@@ -46,14 +46,14 @@ put-refusal-requires c κs = let k = c.before in room (stops k) k.requires.1
 part-put-sheet-end : tie.Need-slice_bounds-put_sheet-end
 part-put-sheet-end c = omega (arith, few c, c.requires.0.1)
 
-part-put-sheet-end-2 : tie.Need-slice-bounds-put-sheet-end-2
-part-put-sheet-end-2 c = omega (arith, few c.before.before, c.requires.0.2)
+part-put-sheet-end-2 : tie.Need-slice_bounds-put_sheet-end-in-Sheet
+part-put-sheet-end-2 c = omega (arith, few c.before, c.requires.0.2)
 
-part-put-sheet-end-3 : tie.Need-slice-bounds-put-sheet-end-3
-part-put-sheet-end-3 c = omega (arith, few c.before.before.before, c.requires.0.3)
+part-put-sheet-end-3 : tie.Need-slice_bounds-put_sheet-end-in-Sheet-2
+part-put-sheet-end-3 c = omega (arith, few c.before.before, c.requires.0.3)
 
-part-put-sheet-end-4 : tie.Need-slice-bounds-put-sheet-end-4
-part-put-sheet-end-4 c = omega (arith, few c.before.before.before.before, c.requires.0.4)
+part-put-sheet-end-4 : tie.Need-slice_bounds-put_sheet-end-in-Sheet-3
+part-put-sheet-end-4 c = omega (arith, few c.before.before.before, c.requires.0.4)
 
 put-sheet-requires : tie.Need-put_sheet-requires
 put-sheet-requires c κs =
