@@ -5,7 +5,7 @@ use Rattle.c_files.proofs.tawqeshim_page.Statement.{statement}
 use Rattle.c_files.proofs.tawqeshim_page.Tie as tie
 
 returns : tie.Need-returns
-returns c = page_told c.tell-page.ensures c.before.before.before.before.before.before.write-page.ensures
+returns c = page_told c.tell_page.ensures c.write_page-answer.ensures
 
 pub tawqeshim_page_spec : {M : Type 1} → statement M
 tawqeshim_page_spec =

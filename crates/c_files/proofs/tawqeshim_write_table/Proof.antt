@@ -5,7 +5,7 @@ use Rattle.c_files.proofs.tawqeshim_write_table.Statement.{statement}
 use Rattle.c_files.proofs.tawqeshim_write_table.Tie as tie
 
 returns : tie.Need-returns
-returns c = written_told c.tell-written.ensures c.before.before.before.before.before.before.write-table.ensures
+returns c = written_told c.tell_written.ensures c.write_table-answer.ensures
 
 pub tawqeshim_write_table_spec : {M : Type 1} → statement M
 tawqeshim_write_table_spec =
