@@ -1,7 +1,7 @@
 -- `file_cells::is_fit` meets its contract. Assumes nothing.
 use mathlib.Core.Path.{refl, sym, ◌∙◌}
 use borrow.Author.Rules.{rules}
-use borrow.Author.Tests.{eq-eqb, ne_eqb, not-true, not-false}
+use borrow.Author.Tests.{eq-eqb, ne_eqb}
 use Rattle.model.specs.Table.{sheet_limit}
 use Rattle.file_cells.proofs.is_fit.Statement.{statement}
 use Rattle.file_cells.proofs.is_fit.Tie as tie

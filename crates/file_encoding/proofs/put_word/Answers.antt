@@ -1,8 +1,8 @@
 -- `file_encoding::put_word` meets its contract: a cell of 0 writes nothing, another its record.
-use Rattle.std.proofs.Common.{◌≡◌, ℕ, ◌+◌, ◌++◌, [], sym, ◌∙◌, length, arith, add-zero}
+use Rattle.std.proofs.Common.{◌+◌, [], sym, ◌∙◌, arith, add-zero}
 use Rattle.model.specs.Numbers.{cell}
 use Rattle.model.specs.File.{encode}
-use Rattle.theory.proofs.Stores.{begin, go_on, ended, room_first}
+use Rattle.theory.proofs.Stores.{begin, go_on, ended}
 use Rattle.theory_files.proofs.Encoding.{made}
 use Rattle.file_encoding.proofs.WordLaws.{word_from, word_zero, word_more, word_done}
 use Rattle.file_encoding.proofs.put_word.Goals as goal
@@ -18,10 +18,10 @@ loop-p-preserved c =
     let i = c.loop-p.p in
     let later = word_from word cells (i + 1) in
     elim c.if-cells-p-ne0.branch [
-      then-cells-p-ne0 w ↦
+      | then-cells-p-ne0 w ↦
           go_on (encode (made word i (cell cells i))) later (word_more word cells i c.loop-p-test.true w.if-cells-p-ne0.true) c.loop-p.invariant
           (w.next-is ∙ w.put_record-next.ensures.value, w.file-is ∙ w.put_record-next.ensures.file_after)
-    | else-cells-p-ne0 w ↦
+      | else-cells-p-ne0 w ↦
           go_on [] later (word_zero word cells i c.loop-p-test.true w.if-cells-p-ne0.false) c.loop-p.invariant
           (w.next-is ∙ sym (add-zero c.loop-p.next), w.file-is)
     ]

@@ -1,5 +1,4 @@
 -- The cells from position p on are left.
-use Rattle.std.proofs.Common.{length}
 use Rattle.theory.proofs.Stores.{Begun}
 use Rattle.file_encoding.proofs.WordLaws.{word_from}
 use Rattle.file_encoding.proofs.put_word.Given as goal

@@ -1,6 +1,5 @@
 -- `page_text::put_decimal` meets its contract: where the branches meet, the last digit is left.
-use Rattle.std.proofs.Common.{List, [], ◌∷◌, ℕ, ◌+◌, ◌*◌, ◌/◌, ◌%◌, ◌<◌, ◌≤◌, ◌≡◌, refl, sym, ◌∙◌, length, arith, add-zero}
-use Rattle.std.proofs.lemmas.List.Edits.{sets}
+use Rattle.std.proofs.Common.{List, [], ◌∷◌, ℕ, ◌+◌, ◌/◌, ◌%◌, refl, sym, ◌∙◌, arith, add-zero}
 use Rattle.model.specs.Text.{decimal}
 use Rattle.theory.proofs.Stores.{Begun, begin, go_on, done, kept, room, room_first}
 use Rattle.theory.proofs.Decimals.{decimal-one, decimal_more}
@@ -17,10 +16,10 @@ begun t c =
     let a = c.args in
     let b = begin (decimal a.amount) a.at a.out.now in
     elim c.if-amount-ge10.branch [
-      then-amount-ge10 w ↦
+      | then-amount-ge10 w ↦
           go_on (decimal (a.amount / 10)) (last a.amount) (decimal_more a.amount w.if-amount-ge10.true) b
           (w.next-is ∙ w.put_decimal-next.ensures.value, w.out-is ∙ w.put_decimal-next.ensures.out_after)
-    | else-amount-ge10 w ↦ go_on [] (last a.amount) (decimal-one a.amount w.if-amount-ge10.false) b (w.next-is ∙ sym (add-zero a.at), w.out-is)
+      | else-amount-ge10 w ↦ go_on [] (last a.amount) (decimal-one a.amount w.if-amount-ge10.false) b (w.next-is ∙ sym (add-zero a.at), w.out-is)
     ]
 
 pub put_decimal-next-requires : goal.put_decimal-next-requires
