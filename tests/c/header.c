@@ -38,6 +38,7 @@ static void questions(void) {
         for (int other = 1; other < k; other++)
             expect(strcmp(text, tawqeshim_question((uint8_t)other)) != 0, "two questions have one text");
     }
+    expect(TAWQESHIM_REFUSED_MERGED_AMOUNT == 19, "the last question before that of a list is not 19");
     expect(TAWQESHIM_REFUSED_ORDER == TAWQESHIM_QUESTIONS, "the last question is not the last number");
     expect(strcmp(tawqeshim_question(TAWQESHIM_REFUSED_ROUNDS), "do the rounds settle within the budget?") == 0, "the text of question 9");
     expect(strstr(tawqeshim_question(TAWQESHIM_REFUSED_SHORTAGE), "reserved") != NULL, "the text of question 10");

@@ -21,7 +21,7 @@ use Rattle.model.specs.File.{Reading, answer_of}
 use Rattle.model.specs.Writer.{written, writer_checks, writer_report}
 use Rattle.model.specs.Page.{page, page_limit, page_report}
 use Rattle.theory.proofs.Lists.{and_true}
-use Rattle.theory.proofs.Verdicts.{asked, numbers_pass, numbers_both, counted_pass}
+use Rattle.theory.proofs.Verdicts.{asked, numbers_pass, numbers_both, counted_numbers}
 use Rattle.theory_files.specs.Files.{input_limit}
 use Rattle.theory_files.proofs.Readings.{Answered}
 use Rattle.theory_files.proofs.Beyond.{called_answered}
@@ -45,7 +45,7 @@ numbered (q ∷ qs) ks e =
 -- Theorems, for the reader: each call, from `coefficients_number` to `page_number`, is accepted exactly where its number is 0
 module _ (t : Table) (matrices lent : List ℕ) where
   amounts_numbers : nonzero (table_amounts t) ≡ true
-  amounts_numbers = counted_pass (leb 1) 0 amount_limit (t.flows ∷ t.columns) refl
+  amounts_numbers = counted_numbers (leb 1) 0 amount_limit (t.flows ∷ t.columns) refl
 
   -- 3, 16, 4, 5 and 6
   contents_numbers : nonzero (table_amounts t ++ balance_checks t) ≡ true

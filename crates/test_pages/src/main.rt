@@ -15,30 +15,29 @@ fn wide(b: u8) -> usize
 }
 
 // The page of the file at an offset, and the offset after it; a file that is cut ends the input.
-fn print_case(rt: &(impl Print + Eprint), input: &[u8], at: usize) -> io::Result<usize>
+fn print_case(rt: &(impl Print + Eprint), input: &[u8], at: usize) -> usize
     requires { at < length input.now }
-    ensures { IfOk result (λ end. (at < end) × (end ≤ length input.now)) }
+    ensures { (at < result) × (result ≤ length input.now) }
 {
     if input.len() - at < 2 {
-        return Ok(input.len());
+        return input.len();
     }
     let size = wide(input[at]) * 256 + wide(input[at + 1]);
     let start = at + 2;
     if input.len() - start < size {
-        return Ok(input.len());
+        return input.len();
     }
     let end = start + size;
-    println!(rt; "{size} bytes")?;
+    let _ = println!(rt; "{size} bytes");
     print_page(rt, &input[start..end]);
-    Ok(end)
+    end
 }
 
-fn print_cases(rt: &(impl Print + Eprint), input: &[u8]) -> io::Result<()> {
+fn print_cases(rt: &(impl Print + Eprint), input: &[u8]) {
     let mut at = 0;
     while at < input.len() {
-        at = print_case(rt, input, at)?;
+        at = print_case(rt, input, at);
     }
-    Ok(())
 }
 
 // Reads until the buffer is full or the input ends: how many bytes came.
@@ -59,5 +58,6 @@ fn read_full<R: Read>(reader: &mut R, buffer: &mut [u8]) -> io::Result<usize>
 fn main(rt: HostRuntime) -> io::Result<()> {
     let mut buffer = [0u8; 65536];
     let count = read_full(&mut rt.reader(), &mut buffer)?;
-    print_cases(&rt, &buffer[..count])
+    print_cases(&rt, &buffer[..count]);
+    Ok(())
 }

@@ -181,9 +181,15 @@ pub numbers_both : (t : ℕ → Bool) (ps qs : List Check) → numbers_pass t ps
 numbers_both t [] qs e f = f
 numbers_both t (p ∷ ps) qs e f = let r = and_true (t p.number) (numbers_pass t ps) e in rw r.0 (numbers_both t ps qs r.1 f)
 
-pub counted_pass : (t : ℕ → Bool) (place limit : ℕ) (ss : List (List ℕ)) → t 3 ≡ true → numbers_pass t (counted_on place (map (bounded 3 0 limit) ss)) ≡ true
-counted_pass t place limit [] three = refl
-counted_pass t place limit (s ∷ ss) three = rw three (counted_pass t (place + length s) limit ss three)
+pub counted_numbers : (t : ℕ → Bool) (place limit : ℕ) (ss : List (List ℕ)) → t 3 ≡ true → numbers_pass t (counted_on place (map (bounded 3 0 limit) ss)) ≡ true
+counted_numbers t place limit [] three = refl
+counted_numbers t place limit (s ∷ ss) three = rw three (counted_numbers t (place + length s) limit ss three)
+
+-- slices that are counted on, before checks whose numbers pass
+pub counted_pass : (t : ℕ → Bool) (place limit : ℕ) (ss : List (List ℕ)) (qs rs : List Check) → t 3 ≡ true → numbers_pass t (qs ++ rs) ≡ true
+    → numbers_pass t (counted_on place (map (bounded 3 0 limit) ss) ++ qs ++ rs) ≡ true
+counted_pass t place limit [] qs rs three e = e
+counted_pass t place limit (s ∷ ss) qs rs three e = rw three (counted_pass t (place + length s) limit ss qs rs three e)
 
 -- a number that none of the first checks has comes only if a later one can fail
 pub not_told : (k : ℕ) (ps qs : List Check) (ks : List ℕ) → numbers_pass (λ q. not (eqb q k)) ps ≡ true → 1 ≤ k → (AllPass ps → AllPass qs)

@@ -24,7 +24,7 @@ use Rattle.theory.proofs.Sums.{upto, sum-cell, cell_in}
 use Rattle.theory.proofs.Lists.{cell-tabulate, and_true}
 use Rattle.theory.proofs.Shares.{portion_le}
 use Rattle.theory_rounds.proofs.Rounds.{weighted_shares, intermediate-within}
-use Rattle.theory.proofs.Verdicts.{Passes, asked, single_failed, number_passes, numbers_both, counted_pass}
+use Rattle.theory.proofs.Verdicts.{Passes, asked, single_failed, number_passes, numbers_both, counted_numbers}
 use Rattle.theory_rounds.proofs.Answers.{InducedGiven, accepted_induced}
 use Rattle.theory_budgets.proofs.Budgets.{production_settles}
 use Rattle.theory_tables.proofs.Tables.{table_sizes}
@@ -259,7 +259,7 @@ module _ (t : Table) (some-columns : 1 ≤ length t.columns) (few-columns : leng
       let seventh = column_sums n (at n d) ∷ [] in
       number_passes other (table_checks t squares columns ++ seventh) []
       (numbers_both other (table_amounts t ++ balance_checks t) seventh
-      (numbers_both other (table_amounts t) (balance_checks t) (counted_pass other 0 amount_limit (t.flows ∷ t.columns) refl) refl) refl)
+      (numbers_both other (table_amounts t) (balance_checks t) (counted_numbers other 0 amount_limit (t.flows ∷ t.columns) refl) refl) refl)
       refl
 
   pub table_nine : (place : ℕ) → table_page t ≡ refusal_line 9 place → ⊥
