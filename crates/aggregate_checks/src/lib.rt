@@ -1,49 +1,41 @@
 // The questions of merging sectors: the lengths, the groups, and the limits of what they have together.
 #![tactic(auto)]
 
-ghost use Rattle.std.specs.Prelude.{◌&&◌, [], ◌∷◌, ◌≡◌, ℕ, ◌<◌, ◌≤◌, eqb, leb, length};
-ghost use Rattle.model.specs.Numbers.{all, cell, tabulate, word_positions};
-ghost use Rattle.model.specs.Table.{sector_limit, table_by};
-ghost use Rattle.model.specs.Checks.{amount_limit, lengths, report, single, size, verdict};
-ghost use Rattle.model.specs.Aggregation.{aggregate_report, group_count, group_fits, is_partition};
+ghost use Rattle.std.specs.Prelude.{◌&&◌, [], ◌∷◌, ◌≡◌, ◌<◌, ◌≤◌, eqb, length, map};
+ghost use Rattle.model.specs.Numbers.{all, tabulate, word_positions};
+ghost use Rattle.model.specs.Table.{sector_limit};
+ghost use Rattle.model.specs.Lent.{table_lent};
+ghost use Rattle.model.specs.Checks.{lengths, report, single, size, verdict};
+ghost use Rattle.model.specs.Aggregation.{aggregate_checks, group_count, group_fits, group_lengths, is_partition};
 ghost use Rattle.theory_groups.specs.Groups.{deciding_within};
+ghost use Rattle.table_balances.specs.Slices.{ColumnLent};
 
 use aggregate_totals::totals_within;
-use checks::check_sizes;
-use model::Answer;
+use checks::{ask, check_sizes};
+use model::{Question, Refusal, Table};
 use table_checks::check_contents;
-
-// Is the number of groups from 1 to n?
-fn is_counted(n: usize, g: usize) -> bool
-    ensures { result ≡ (leb 1 g && leb g n) }
-{
-    if g < 1 {
-        return false;
-    }
-    g <= n
-}
 
 // Questions 1 and 2: n, the lengths of the table's slices, the number of groups, and the lengths of what is lent for the merged table.
 fn check_lengths(
-    n: usize,
-    matrices: &[usize],
-    columns: &[usize],
-    g: usize,
+    table: &Table,
+    groups: &[u64],
     merged: &[usize],
     lent: &[usize],
-) -> Answer
-    ensures { report result ≡ verdict (size n ∷ lengths n matrices.now columns.now ∷ single 2 (leb 1 g && leb g n) ∷ lengths g merged.now lent.now ∷ []) [] }
+) -> Result<(), Refusal>
+    ensures { let t = table_lent table.now in
+        report result ≡ verdict (size t.sectors ∷ lengths t.sectors (length t.flows ∷ []) (map length t.columns) ∷ group_lengths t groups.now merged.now lent.now) [] }
 {
-    let sizes = check_sizes(n, matrices, columns);
-    let Answer::Accepted = sizes else {
-        return sizes;
-    };
-    if !is_counted(n, g) {
-        return Answer::Refused {
-            number: 2,
-            place: 0,
-        };
-    }
+    let columns = [
+        table.final_demand.len(),
+        table.exports.len(),
+        table.imports.len(),
+        table.value_added.len(),
+        table.production.len(),
+        table.adjustment.len(),
+    ];
+    check_sizes(table.sectors, &[table.flows.len()], &columns)?;
+    let g = groups.len();
+    ask(Question::Lengths, 1 <= g && g <= table.sectors)?;
     check_sizes(g, merged, lent)
 }
 
@@ -52,9 +44,9 @@ fn count_groups(groups: &[u64], sector: usize) -> u64
     requires { sector < word_positions }
     ensures { result ≡ group_count groups.now sector }
 {
-    let mut count: u64 = 0;
-    for k in 0..groups.len() {
-        count += (groups[k] >> sector) % 2;
+    let mut count = 0;
+    for group in groups {
+        count += (group >> sector) % 2;
     }
     count
 }
@@ -64,28 +56,15 @@ fn each_in_one(n: usize, groups: &[u64]) -> bool
     requires { n ≤ sector_limit }
     ensures { result ≡ all (eqb 1) (tabulate n (group_count groups.now)) }
 {
-    for i in 0..n {
-        if count_groups(groups, i) != 1 {
-            return false;
-        }
-    }
-    true
+    (0..n).all(|i| count_groups(groups, i) == 1)
 }
 
-// Has every group a sector, and none a bit at n or above?
-fn words_fit(n: usize, groups: &[u64]) -> bool
+// Has a group a sector, and no bit at n or above?
+fn word_fits(n: usize, group: u64) -> bool
     requires { n ≤ sector_limit }
-    ensures { result ≡ all (group_fits n) groups.now }
+    ensures { result ≡ group_fits n group }
 {
-    for k in 0..groups.len() {
-        if groups[k] < 1 {
-            return false;
-        }
-        if groups[k] >> n != 0 {
-            return false;
-        }
-    }
-    true
+    0 < group && group >> n == 0
 }
 
 // Question 18: is every sector in one group, no group empty, and no bit at n or above set?
@@ -93,101 +72,45 @@ fn is_partition(n: usize, groups: &[u64]) -> bool
     requires { n ≤ sector_limit }
     ensures { result ≡ is_partition n groups.now }
 {
-    if !each_in_one(n, groups) {
-        return false;
-    }
-    words_fit(n, groups)
+    each_in_one(n, groups) && groups.iter().all(|&group| word_fits(n, group))
 }
 
 // Question 19: is what each group has together within the limit of amounts? Final demand, imports and production decide it.
-fn is_within(
-    n: usize,
-    groups: &[u64],
-    final_demand: &[u64],
-    imports: &[u64],
-    production: &[u64],
-) -> bool
-    requires n_le_sector_limit { (n ≤ sector_limit) × (length final_demand.now ≡ n) × (length imports.now ≡ n) × (length production.now ≡ n) }
-    requires by_index { (k : ℕ) → (cell final_demand.now k ≤ amount_limit) × (cell imports.now k ≤ amount_limit) × (cell production.now k ≤ amount_limit) }
-    ensures { result ≡ deciding_within n groups.now final_demand.now imports.now production.now }
+fn is_within(table: &Table, groups: &[u64]) -> bool
+    requires few { table.now.sectors ≤ sector_limit }
+    requires final_demand { ColumnLent table.now.sectors table.now.final_demand.now }
+    requires imports { ColumnLent table.now.sectors table.now.imports.now }
+    requires production { ColumnLent table.now.sectors table.now.production.now }
+    ensures { result ≡ deciding_within table.now.sectors groups.now table.now.final_demand.now table.now.imports.now table.now.production.now }
 {
-    if !totals_within(n, groups, final_demand) {
-        return false;
-    }
-    if !totals_within(n, groups, imports) {
-        return false;
-    }
-    totals_within(n, groups, production)
+    totals_within(groups, table.final_demand)
+        && totals_within(groups, table.imports)
+        && totals_within(groups, table.production)
 }
 
 // Questions 18 and 19.
-fn check_groups(
-    n: usize,
-    groups: &[u64],
-    final_demand: &[u64],
-    imports: &[u64],
-    production: &[u64],
-) -> Answer
-    requires n_le_sector_limit { (n ≤ sector_limit) × (length final_demand.now ≡ n) × (length imports.now ≡ n) × (length production.now ≡ n) }
-    requires by_index { (k : ℕ) → (cell final_demand.now k ≤ amount_limit) × (cell imports.now k ≤ amount_limit) × (cell production.now k ≤ amount_limit) }
-    ensures { report result ≡ verdict (single 18 (is_partition n groups.now) ∷ single 19 (deciding_within n groups.now final_demand.now imports.now production.now) ∷ []) [] }
+fn check_groups(table: &Table, groups: &[u64]) -> Result<(), Refusal>
+    requires few { table.now.sectors ≤ sector_limit }
+    requires final_demand { ColumnLent table.now.sectors table.now.final_demand.now }
+    requires imports { ColumnLent table.now.sectors table.now.imports.now }
+    requires production { ColumnLent table.now.sectors table.now.production.now }
+    ensures { let n = table.now.sectors in
+        report result ≡ verdict (single 18 (is_partition n groups.now) ∷ single 19 (deciding_within n groups.now table.now.final_demand.now table.now.imports.now table.now.production.now) ∷ []) [] }
 {
-    if !is_partition(n, groups) {
-        return Answer::Refused {
-            number: 18,
-            place: 0,
-        };
-    }
-    if !is_within(n, groups, final_demand, imports, production) {
-        return Answer::Refused {
-            number: 19,
-            place: 0,
-        };
-    }
-    Answer::Accepted
+    ask(Question::Partition, is_partition(table.sectors, groups))?;
+    ask(Question::GroupTotals, is_within(table, groups))
 }
 
 // All questions of merging the sectors of a table.
 pub fn check_merging(
-    n: usize,
-    x: &[u64],
-    final_demand: &[u64],
-    exports: &[u64],
-    imports: &[u64],
-    value_added: &[u64],
-    production: &[u64],
-    adjustment: &[u64],
+    table: &Table,
     groups: &[u64],
     merged: &[usize],
     lent: &[usize],
-) -> Answer
-    ensures { report result ≡ aggregate_report (table_by n x.now final_demand.now exports.now imports.now value_added.now production.now adjustment.now) groups.now merged.now lent.now }
+) -> Result<(), Refusal>
+    ensures { report result ≡ verdict (aggregate_checks (table_lent table.now) groups.now merged.now lent.now) [] }
 {
-    let matrices = [x.len()];
-    let columns = [
-        final_demand.len(),
-        exports.len(),
-        imports.len(),
-        value_added.len(),
-        production.len(),
-        adjustment.len(),
-    ];
-    let sizes = check_lengths(n, &matrices, &columns, groups.len(), merged, lent);
-    let Answer::Accepted = sizes else {
-        return sizes;
-    };
-    let contents = check_contents(
-        n,
-        x,
-        final_demand,
-        exports,
-        imports,
-        value_added,
-        production,
-        adjustment,
-    );
-    let Answer::Accepted = contents else {
-        return contents;
-    };
-    check_groups(n, groups, final_demand, imports, production)
+    check_lengths(table, groups, merged, lent)?;
+    check_contents(table)?;
+    check_groups(table, groups)
 }

@@ -1,90 +1,48 @@
-// The questions of merging sectors with the lengths of all that is lent, and the outputs one at a time.
+// What merging sectors leaves where it is accepted: every output, one after the other.
 #![tactic(auto)]
 
-ghost use Rattle.std.specs.Prelude.{true, [], ◌∷◌, ◌≡◌, ℕ, ◌*◌, ◌≤◌, length};
+ghost use Rattle.std.specs.Prelude.{◌≡◌, ◌*◌, ◌≤◌, length};
 ghost use Rattle.model.specs.Numbers.{cell, matrix, set_positions, tabulate};
-ghost use Rattle.model.specs.Table.{sector_limit, table_of, table_by};
-ghost use Rattle.model.specs.Checks.{amount_limit, output, report};
-ghost use Rattle.model.specs.Aggregation.{aggregate_report, merged_column, merged_flow};
+ghost use Rattle.model.specs.Lent.{table_lent};
+ghost use Rattle.model.specs.Aggregation.{merged_column, merged_flow};
+ghost use Rattle.table_balances.specs.Slices.{SlicesLent};
 
-use aggregate_checks::check_merging;
 use aggregate_totals::{fill_column, fill_flows, fill_sizes};
-use cells::fill_zero;
-use model::Answer;
+use model::Table;
 
-// All questions, with the lengths of the outputs.
-pub fn check_called(
-    n: usize,
-    x: &[u64],
-    final_demand: &[u64],
-    exports: &[u64],
-    imports: &[u64],
-    value_added: &[u64],
-    production: &[u64],
-    adjustment: &[u64],
+// The merged flows, each merged column, and the groups' sizes.
+pub fn fill_merged(
+    table: &Table,
     groups: &[u64],
-    merged_len: usize,
-    f_len: usize,
-    e_len: usize,
-    m_len: usize,
-    v_len: usize,
-    p_len: usize,
-    g_len: usize,
-    sizes_len: usize,
-) -> Answer
-    ensures { report result ≡ aggregate_report (table_by n x.now final_demand.now exports.now imports.now value_added.now production.now adjustment.now) groups.now (merged_len ∷ []) (f_len ∷ e_len ∷ m_len ∷ v_len ∷ p_len ∷ g_len ∷ sizes_len ∷ []) }
+    merged_x: &mut [u64],
+    merged_final_demand: &mut [u64],
+    merged_exports: &mut [u64],
+    merged_imports: &mut [u64],
+    merged_value_added: &mut [u64],
+    merged_production: &mut [u64],
+    merged_adjustment: &mut [u64],
+    sizes: &mut [u64],
+)
+    requires slices { SlicesLent table.now }
+    requires counted { (1 ≤ length groups.now) × (length groups.now ≤ table.now.sectors) }
+    requires merged_sizes { let g = length groups.now in
+        (length merged_x.old ≡ g * g) × (length merged_final_demand.old ≡ g) × (length merged_exports.old ≡ g) × (length merged_imports.old ≡ g)
+        × (length merged_value_added.old ≡ g) × (length merged_production.old ≡ g) × (length merged_adjustment.old ≡ g) × (length sizes.old ≡ g) }
+    ensures flows { merged_x.new ≡ matrix (length groups.now) (merged_flow (table_lent table.now) groups.now) }
+    ensures final_demand { merged_final_demand.new ≡ merged_column (table_lent table.now) groups.now table.now.final_demand.now }
+    ensures exports { merged_exports.new ≡ merged_column (table_lent table.now) groups.now table.now.exports.now }
+    ensures imports { merged_imports.new ≡ merged_column (table_lent table.now) groups.now table.now.imports.now }
+    ensures value_added { merged_value_added.new ≡ merged_column (table_lent table.now) groups.now table.now.value_added.now }
+    ensures production { merged_production.new ≡ merged_column (table_lent table.now) groups.now table.now.production.now }
+    ensures adjustment { merged_adjustment.new ≡ merged_column (table_lent table.now) groups.now table.now.adjustment.now }
+    ensures took { sizes.new ≡ tabulate (length groups.now) (λ k. set_positions (cell groups.now k)) }
 {
-    let merged = [merged_len];
-    let lent = [f_len, e_len, m_len, v_len, p_len, g_len, sizes_len];
-    check_merging(
-        n,
-        x,
-        final_demand,
-        exports,
-        imports,
-        value_added,
-        production,
-        adjustment,
-        groups,
-        &merged,
-        &lent,
-    )
-}
-
-// What the call leaves of the flows: the merged ones where it was accepted, else 0 in every cell.
-pub fn leave_flows(answer: Answer, n: usize, x: &[u64], groups: &[u64], merged: &mut [u64])
-    requires n_le_sector_limit { (report answer).accepted ≡ true → (n ≤ sector_limit) × (length x.now ≡ n * n) × (1 ≤ length groups.now) × (length groups.now ≤ n) × (length merged.old ≡ length groups.now * length groups.now) }
-    requires k_bound { (report answer).accepted ≡ true → (k : ℕ) → cell x.now k ≤ amount_limit }
-    ensures { merged.new ≡ output (report answer) (length merged.old) (matrix (length groups.now) (merged_flow (table_of n x.now []) groups.now)) }
-{
-    if let Answer::Accepted = answer {
-        fill_flows(n, x, groups, merged);
-        return;
-    }
-    fill_zero(merged);
-}
-
-// And of a column.
-pub fn leave_column(answer: Answer, n: usize, groups: &[u64], column: &[u64], merged: &mut [u64])
-    requires n_le_sector_limit { (report answer).accepted ≡ true → (n ≤ sector_limit) × (length column.now ≡ n) × (length merged.old ≡ length groups.now) }
-    requires k_bound { (report answer).accepted ≡ true → (k : ℕ) → cell column.now k ≤ amount_limit }
-    ensures { merged.new ≡ output (report answer) (length merged.old) (merged_column (table_of n [] []) groups.now column.now) }
-{
-    if let Answer::Accepted = answer {
-        fill_column(n, groups, column, merged);
-        return;
-    }
-    fill_zero(merged);
-}
-
-// And of the groups' sizes.
-pub fn leave_sizes(answer: Answer, groups: &[u64], sizes: &mut [u64])
-    requires { (report answer).accepted ≡ true → length sizes.old ≡ length groups.now }
-    ensures { sizes.new ≡ output (report answer) (length sizes.old) (tabulate (length groups.now) (λ k. set_positions (cell groups.now k))) }
-{
-    if let Answer::Accepted = answer {
-        fill_sizes(groups, sizes);
-        return;
-    }
-    fill_zero(sizes);
+    fill_flows(table.sectors, table.flows, groups, merged_x);
+    fill_column(groups, table.final_demand, merged_final_demand);
+    fill_column(groups, table.exports, merged_exports);
+    fill_column(groups, table.imports, merged_imports);
+    fill_column(groups, table.value_added, merged_value_added);
+    fill_column(groups, table.production, merged_production);
+    fill_column(groups, table.adjustment, merged_adjustment);
+    fill_sizes(groups, sizes);
 }

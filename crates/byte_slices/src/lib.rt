@@ -1,7 +1,7 @@
-// Leaves over lent bytes. Those that write write from `at` on, keep every other byte, and answer the next free place.
+// Leaves over lent bytes: they write from `at` on, keep every other byte, and answer the next free place.
 #![tactic(auto)]
 
-ghost use Rattle.std.specs.Prelude.{◌≡◌, ◌∷◌, [], ◌+◌, ◌≤◌, length, replicate};
+ghost use Rattle.std.specs.Prelude.{◌≡◌, ◌∷◌, [], ◌+◌, ◌≤◌, length};
 ghost use Rattle.std.proofs.lemmas.List.Edits.{sets};
 
 // One byte.
@@ -20,19 +20,7 @@ pub fn put_bytes(src: &[u8], at: usize, out: &mut [u8]) -> usize
     ensures value { result ≡ at + length src.now }
     ensures out_after { out.new ≡ sets out.old at src.now }
 {
-    for i in 0..src.len() {
-        out[at + i] = src[i];
-    }
-    at + src.len()
-}
-
-// Sets every byte to 0.
-pub fn clear_bytes(out: &mut [u8])
-    ensures { out.new ≡ replicate (length out.old) 0 }
-{
-    let mut i = 0;
-    while i < out.len() {
-        out[i] = 0;
-        i += 1;
-    }
+    let next = at + src.len();
+    out[at..next].copy_from_slice(src);
+    next
 }

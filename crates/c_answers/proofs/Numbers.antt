@@ -12,7 +12,7 @@ use lib.ListN.{length}
 use Rattle.model.specs.Numbers.{at, transposed}
 use Rattle.model.specs.Table.{Table}
 use Rattle.model.specs.Rounds.{settling, inverse_rounds, impact_rounds}
-use Rattle.model.specs.Checks.{Report, report_read, report_told, Check, amount_limit, balance_checks, both_settle, verdict, column_sums, columns_settle, demand_checks, demand_limit, induced_amounts, lengths, production_total, rise_limit, single, size, table_amounts}
+use Rattle.model.specs.Checks.{Report, report_told, Check, amount_limit, balance_checks, both_settle, verdict, column_sums, columns_settle, demand_checks, demand_limit, induced_amounts, lengths, production_total, rise_limit, single, size, table_amounts}
 use Rattle.model.specs.Calls.{coefficients_report, domestic_coefficients, domestic_demand_checks, domestic_demand_report, impact_report, implied_checks, implied_report, induced_report, inverse_report, matrix_checks, price_report, production_report, settling_checks, table_checks}
 use Rattle.model.specs.Aggregation.{partitioned, merged_within, aggregate_checks, aggregate_report}
 use Rattle.model.specs.Permutation.{entries_fresh, permute_checks, permute_report}
@@ -105,11 +105,11 @@ induced_number n a m v F y lent =
     numbered (size n ∷ lengths n (length a ∷ []) columns ∷ induced_amounts a m v F ++ (production_total n y ∷ [])) [] refl
 
 -- ---- the reader
-answered_number : (o : Reading) (most : ℕ) → Answered most o → Numbered (report_read (answer_of o))
+answered_number : (o : Reading) (most : ℕ) → Answered most o → Numbered (answer_of o)
 answered_number (Reading.refused q p) most a = sym (ne_eqb q 0 (λ e. omega (arith, a.0)))
 answered_number (Reading.table n es) most a = refl
 
-pub read_number : (file : List ℕ) (s₀ : Slices) (marks₀ : List ℕ) → Numbered (report_read (answer_of (reading_into file s₀ marks₀)))
+pub read_number : (file : List ℕ) (s₀ : Slices) (marks₀ : List ℕ) → Numbered (answer_of (reading_into file s₀ marks₀))
 read_number file s₀ marks₀ = answered_number (reading_into file s₀ marks₀) input_limit (called_answered _ _ _ file)
 
 -- ---- the writer

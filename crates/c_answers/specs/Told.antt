@@ -1,11 +1,18 @@
 -- Answers as C gets them: by numbers, of which a refusal's counts are 0.
-use Rattle.std.specs.Prelude.{cond, List, ◌≡◌, ℕ, ◌*◌, eqb, length, take, drop}
+use Rattle.std.specs.Prelude.{cond, List, ◌≡◌, ℕ, ◌*◌, eqb, length, take, drop, Option, Some, None, Result, Ok, Err}
+use Rattle.model.specs.Questions.{number as number_of}
 use Rattle.model.specs.Rounds.{row_slice}
+use Rattle.model.specs.declared.Refusal.{Refusal}
 use Rattle.model.specs.Checks.{Report}
 
 -- the number, the place and the counts of a report
 abbrev pub Told : Report → (number place : ℕ) (counts : List ℕ) → Type 0
 Told r number place counts = (number ≡ r.number) × (place ≡ r.place) × (counts ≡ r.counts)
+
+-- what is told of an answer: its number and its place, 0 and 0 where it was accepted, and what it says then
+abbrev pub ToldOf : {A : Type 0} → Result A Refusal → (number place : ℕ) → Option A → Type 0
+ToldOf (Ok a) number place said = (number ≡ 0) × (place ≡ 0) × (said ≡ Some a)
+ToldOf (Err e) number place said = (number ≡ number_of e.question) × (place ≡ e.place) × (said ≡ None)
 
 -- a sector's row: how many cells it has, where in the sheet it starts, 0 if there is none, and that those cells of the sheet are the row
 pub record ToldRow (n : ℕ) (d : List ℕ) (sector start count : ℕ) : Type 0 where

@@ -6,12 +6,14 @@ ghost use Rattle.std.specs.Prelude.{[], ◌∷◌};
 ghost use Rattle.model.specs.Checks.{report_told};
 ghost use Rattle.model.specs.CallContracts.{FileWritten, PagePrinted, slices_of};
 
-use c_answers::{tell_page, tell_written};
+use c_answers::tell;
 use file_writer::write_table;
+use model::Table;
 use page::write_page;
 
 // Writes a table as a file. Asks 1, 2, 3.
 #[unsafe(no_mangle)]
+#[tactic(auto, using(c_answers::proofs::Numbers::written_told))]
 pub extern "C" fn tawqeshim_write_table(
     n: usize,
     x: &[u64],
@@ -31,23 +33,23 @@ pub extern "C" fn tawqeshim_write_table(
         (slices_of x.now final_demand.now exports.now imports.now value_added.now production.now adjustment.now rises.now)
         file.old (report_told number.new place.new (length.new ∷ [])) file.new }
 {
-    let answer = write_table(
-        n,
-        x,
+    let table = Table {
+        sectors: n,
+        flows: x,
         final_demand,
         exports,
         imports,
         value_added,
         production,
         adjustment,
-        rises,
-        file,
-    );
-    tell_written(answer, number, place, length);
+    };
+    let answer = write_table(&table, rises, file);
+    *length = tell(answer, number, place).unwrap_or(0);
 }
 
 // Reads a table file of any bytes and writes its page. Asks 2.
 #[unsafe(no_mangle)]
+#[tactic(auto, using(c_answers::proofs::Numbers::page_told))]
 pub extern "C" fn tawqeshim_page(
     file: &[u8],
     out: &mut [u8],
@@ -58,5 +60,5 @@ pub extern "C" fn tawqeshim_page(
     ensures { PagePrinted file.now out.old (report_told number.new place.new (count.new ∷ [])) out.new }
 {
     let answer = write_page(file, out);
-    tell_page(answer, number, place, count);
+    *count = tell(answer, number, place).unwrap_or(0);
 }

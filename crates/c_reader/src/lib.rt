@@ -6,11 +6,12 @@ ghost use Rattle.std.specs.Prelude.{[], ◌∷◌};
 ghost use Rattle.model.specs.Checks.{report_told};
 ghost use Rattle.model.specs.CallContracts.{FileRead, slices_of};
 
-use c_answers::tell_read;
+use c_answers::tell;
 use file_reader::read_table;
 
 // Reads a table file. Asks 2, then 11 to 15.
 #[unsafe(no_mangle)]
+#[tactic(auto, using(c_answers::proofs::Numbers::read_told))]
 pub extern "C" fn tawqeshim_read_table(
     file: &[u8],
     x: &mut [u64],
@@ -44,5 +45,7 @@ pub extern "C" fn tawqeshim_read_table(
         rises,
         marks,
     );
-    tell_read(answer, number, place, sectors, named);
+    let read = tell(answer, number, place).unwrap_or_default();
+    *sectors = read.sectors;
+    *named = read.named;
 }

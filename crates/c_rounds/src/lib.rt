@@ -6,12 +6,13 @@ ghost use Rattle.std.specs.Prelude.{[], ◌∷◌};
 ghost use Rattle.model.specs.Checks.{report_told};
 ghost use Rattle.model.specs.CallContracts.{Compared, Priced, Produced};
 
-use c_answers::tell_outcome;
+use c_answers::tell;
 use impact::impact;
 use production::{price, production};
 
 // Production from a demand for domestic goods. Asks 1, 2, 7, 8, 9.
 #[unsafe(no_mangle)]
+#[tactic(auto, using(c_answers::proofs::Numbers::produced_told))]
 pub extern "C" fn tawqeshim_production(
     n: usize,
     d: &[u64],
@@ -26,11 +27,12 @@ pub extern "C" fn tawqeshim_production(
     ensures { Produced n d.now f.now budget out.old work.old (report_told number.new place.new (rounds.new ∷ [])) out.new work.new }
 {
     let outcome = production(n, d, f, budget, out, work);
-    tell_outcome(outcome, number, place, rounds);
+    *rounds = tell(outcome, number, place).unwrap_or(0);
 }
 
 // Price rises from direct rises. Asks 1, 2, 7, 8, 9.
 #[unsafe(no_mangle)]
+#[tactic(auto, using(c_answers::proofs::Numbers::priced_told))]
 pub extern "C" fn tawqeshim_price(
     n: usize,
     d: &[u64],
@@ -45,11 +47,12 @@ pub extern "C" fn tawqeshim_price(
     ensures { Priced n d.now w.now budget out.old work.old (report_told number.new place.new (rounds.new ∷ [])) out.new work.new }
 {
     let outcome = price(n, d, w, budget, out, work);
-    tell_outcome(outcome, number, place, rounds);
+    *rounds = tell(outcome, number, place).unwrap_or(0);
 }
 
 // What a scheme adds: the rise of production from a demand to another. Asks 1, 2, 7, 8, 17, 9.
 #[unsafe(no_mangle)]
+#[tactic(auto, using(c_answers::proofs::Numbers::compared_told))]
 pub extern "C" fn tawqeshim_impact(
     n: usize,
     d: &[u64],
@@ -65,5 +68,5 @@ pub extern "C" fn tawqeshim_impact(
     ensures { Compared n d.now before.now after.now budget out.old work.old (report_told number.new place.new (rounds.new ∷ [])) out.new work.new }
 {
     let outcome = impact(n, d, before, after, budget, out, work);
-    tell_outcome(outcome, number, place, rounds);
+    *rounds = tell(outcome, number, place).unwrap_or(0);
 }

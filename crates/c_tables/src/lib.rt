@@ -8,12 +8,14 @@ ghost use Rattle.model.specs.Checks.{report_told};
 ghost use Rattle.model.specs.CallContracts.{Aggregated, Derived, Permuted};
 
 use aggregate::aggregate;
-use c_answers::tell_answer;
+use c_answers::tell;
 use coefficients::coefficients;
+use model::Table;
 use permute::permute;
 
 // The sheets of a table. Asks 1 to 3, 16 and 4 to 7.
 #[unsafe(no_mangle)]
+#[tactic(auto, using(c_answers::proofs::Numbers::derived_told))]
 pub extern "C" fn tawqeshim_coefficients(
     n: usize,
     x: &[u64],
@@ -35,26 +37,23 @@ pub extern "C" fn tawqeshim_coefficients(
         a.old v.old m.old d.old f.old (report_told number.new place.new [])
         a.new v.new m.new d.new f.new }
 {
-    let answer = coefficients(
-        n,
-        x,
+    let table = Table {
+        sectors: n,
+        flows: x,
         final_demand,
         exports,
         imports,
         value_added,
         production,
         adjustment,
-        a,
-        v,
-        m,
-        d,
-        f,
-    );
-    tell_answer(answer, number, place);
+    };
+    let answer = coefficients(&table, a, v, m, d, f);
+    tell(answer, number, place);
 }
 
 // A table with its sectors merged by groups. Asks 1 to 3, 16, 4 to 6, 18 and 19.
 #[unsafe(no_mangle)]
+#[tactic(auto, using(c_answers::proofs::Numbers::aggregated_told))]
 pub extern "C" fn tawqeshim_aggregate(
     n: usize,
     x: &[u64],
@@ -80,15 +79,18 @@ pub extern "C" fn tawqeshim_aggregate(
         (table_by (length groups.now) merged_x.old merged_final_demand.old merged_exports.old merged_imports.old merged_value_added.old merged_production.old merged_adjustment.old) sizes.old (report_told number.new place.new [])
         (table_by (length groups.now) merged_x.new merged_final_demand.new merged_exports.new merged_imports.new merged_value_added.new merged_production.new merged_adjustment.new) sizes.new }
 {
-    let answer = aggregate(
-        n,
-        x,
+    let table = Table {
+        sectors: n,
+        flows: x,
         final_demand,
         exports,
         imports,
         value_added,
         production,
         adjustment,
+    };
+    let answer = aggregate(
+        &table,
         groups,
         merged_x,
         merged_final_demand,
@@ -99,11 +101,12 @@ pub extern "C" fn tawqeshim_aggregate(
         merged_adjustment,
         sizes,
     );
-    tell_answer(answer, number, place);
+    tell(answer, number, place);
 }
 
 // A table with its sectors in another order, and the inverse list. Asks 1 to 3 and 20.
 #[unsafe(no_mangle)]
+#[tactic(auto, using(c_answers::proofs::Numbers::permuted_told))]
 pub extern "C" fn tawqeshim_permute(
     n: usize,
     x: &[u64],
@@ -129,15 +132,18 @@ pub extern "C" fn tawqeshim_permute(
         (table_by n permuted_x.old permuted_final_demand.old permuted_exports.old permuted_imports.old permuted_value_added.old permuted_production.old permuted_adjustment.old) inverse.old (report_told number.new place.new [])
         (table_by n permuted_x.new permuted_final_demand.new permuted_exports.new permuted_imports.new permuted_value_added.new permuted_production.new permuted_adjustment.new) inverse.new }
 {
-    let answer = permute(
-        n,
-        x,
+    let table = Table {
+        sectors: n,
+        flows: x,
         final_demand,
         exports,
         imports,
         value_added,
         production,
         adjustment,
+    };
+    let answer = permute(
+        &table,
         order,
         permuted_x,
         permuted_final_demand,
@@ -148,5 +154,5 @@ pub extern "C" fn tawqeshim_permute(
         permuted_adjustment,
         inverse,
     );
-    tell_answer(answer, number, place);
+    tell(answer, number, place);
 }

@@ -3,26 +3,32 @@
 
 ghost use Rattle.std.specs.Prelude.{[], ◌∷◌, ◌≡◌, length};
 ghost use Rattle.model.specs.Checks.{demand_amounts, report, verdict};
-ghost use Rattle.model.specs.Calls.{domestic_demand_report};
+ghost use Rattle.model.specs.Calls.{domestic_demand_checks};
 ghost use Rattle.model.specs.CallContracts.{Demanded};
 
-use cells::fill_zero;
-use checks::{cells_within, check_sizes, next_within};
-use model::{AMOUNT_LIMIT, Answer, ONE};
+use checks::{Part, check_sizes, parts_within};
+use model::Refusal;
 use table_balances::exports_within;
 use table_demand::fill_demand;
 
 // Question 3: import shares within one, amounts within 1,000,000,000. Places are counted on through the slices.
-fn check_amounts(m: &[u64], final_demand: &[u64], exports: &[u64], adjustment: &[u64]) -> Answer
+fn check_amounts(
+    m: &[u64],
+    final_demand: &[u64],
+    exports: &[u64],
+    adjustment: &[u64],
+) -> Result<(), Refusal>
     ensures { report result ≡ verdict (demand_amounts m.now final_demand.now exports.now adjustment.now) [] }
 {
-    let shares = cells_within(3, 0, ONE, m);
-    let from_demand = m.len();
-    let demands = next_within(shares, from_demand, AMOUNT_LIMIT, final_demand);
-    let from_exports = from_demand + final_demand.len();
-    let abroad = next_within(demands, from_exports, AMOUNT_LIMIT, exports);
-    let from_adjustment = from_exports + exports.len();
-    next_within(abroad, from_adjustment, AMOUNT_LIMIT, adjustment)
+    parts_within(
+        0,
+        &[
+            Part::shares(m),
+            Part::amounts(final_demand),
+            Part::amounts(exports),
+            Part::amounts(adjustment),
+        ],
+    )
 }
 
 // Questions 1, 2, 3 and 16.
@@ -33,10 +39,9 @@ fn check_demand(
     exports: &[u64],
     adjustment: &[u64],
     out_len: usize,
-) -> Answer
-    ensures { report result ≡ domestic_demand_report n m.now final_demand.now exports.now adjustment.now (out_len ∷ []) }
+) -> Result<(), Refusal>
+    ensures { report result ≡ verdict (domestic_demand_checks n m.now final_demand.now exports.now adjustment.now (out_len ∷ [])) [] }
 {
-    let matrices: [usize; 0] = [];
     let lent = [
         m.len(),
         final_demand.len(),
@@ -44,14 +49,8 @@ fn check_demand(
         adjustment.len(),
         out_len,
     ];
-    let sizes = check_sizes(n, &matrices, &lent);
-    let Answer::Accepted = sizes else {
-        return sizes;
-    };
-    let amounts = check_amounts(m, final_demand, exports, adjustment);
-    let Answer::Accepted = amounts else {
-        return amounts;
-    };
+    check_sizes(n, &[], &lent)?;
+    check_amounts(m, final_demand, exports, adjustment)?;
     exports_within(n, exports, adjustment)
 }
 
@@ -63,18 +62,11 @@ pub fn domestic_demand(
     exports: &[u64],
     adjustment: &[u64],
     out: &mut [u64],
-) -> Answer
+) -> Result<(), Refusal>
     ensures { Demanded n m.now final_demand.now exports.now adjustment.now out.old (report result) out.new }
 {
-    let checked = check_demand(n, m, final_demand, exports, adjustment, out.len());
-    match checked {
-        Answer::Refused { number, place } => {
-            fill_zero(out);
-            Answer::Refused { number, place }
-        }
-        Answer::Accepted => {
-            fill_demand(n, m, final_demand, exports, adjustment, out);
-            Answer::Accepted
-        }
-    }
+    out.fill(0);
+    check_demand(n, m, final_demand, exports, adjustment, out.len())?;
+    fill_demand(n, m, final_demand, exports, adjustment, out);
+    Ok(())
 }

@@ -1,95 +1,71 @@
 // A table's records in the order of its file: its rows, its columns, and the whole file.
 #![tactic(auto)]
 
-ghost use Rattle.std.specs.Prelude.{[], ◌∷◌, ◌≡◌, ℕ, ◌+◌, ◌*◌, ◌<◌, ◌≤◌, get_or, length};
+ghost use Rattle.std.specs.Prelude.{[], ◌∷◌, ◌≡◌, ℕ, ◌+◌, ◌*◌, ◌<◌, ◌≤◌, get_or, length, map};
 ghost use Rattle.std.proofs.lemmas.List.Edits.{sets};
 ghost use Rattle.model.specs.Numbers.{cell};
 ghost use Rattle.model.specs.Table.{sector_limit};
 ghost use Rattle.model.specs.Checks.{amount_limit};
 ghost use Rattle.model.specs.File.{column_kinds, encode_all};
 ghost use Rattle.model.specs.Writer.{rows, words_entries, written};
-ghost use Rattle.model.specs.CallContracts.{slices_of, table_from};
+ghost use Rattle.model.specs.CallContracts.{slices_lent, table_from};
 ghost use Rattle.theory_tables.specs.Tables.{TableAmounts, TableSizes};
 
 use byte_slices::{put_byte, put_bytes};
 use file_encoding::put_word;
-use model::SECTORS;
+use file_records::Kind;
+use model::{COLUMNS, SECTORS, Table};
 
 // The rows of x.
 fn put_rows(n: usize, x: &[u64], at: usize, file: &mut [u8]) -> usize
-    requires n_le_sector_limit { (n ≤ sector_limit) × (length x.now ≡ n * n) }
-    requires by_index { (k : ℕ) → cell x.now k ≤ amount_limit }
-    requires x_in_bounds { at + length (encode_all (words_entries 0 (rows n x.now))) ≤ length file.old }
+    requires sizes { (n ≤ sector_limit) × (length x.now ≡ n * n) }
+    requires amounts { (k : ℕ) → cell x.now k ≤ amount_limit }
+    requires room { at + length (encode_all (words_entries 0 (rows n x.now))) ≤ length file.old }
     ensures value { result ≡ at + length (encode_all (words_entries 0 (rows n x.now))) }
     ensures file_after { file.new ≡ sets file.old at (encode_all (words_entries 0 (rows n x.now))) }
 {
     let mut next = at;
+    // Rows are cut by their index: chunks of n need an n above 0.
     for i in 0..n {
-        let start = i * n;
-        let end = start + n;
-        next = put_word(i, &x[start..end], next, file);
+        next = put_word(i, &x[i * n..(i + 1) * n], next, file);
     }
     next
 }
 
 // The columns, in the order of their kinds.
-fn put_columns(
-    final_demand: &[u64],
-    exports: &[u64],
-    imports: &[u64],
-    value_added: &[u64],
-    production: &[u64],
-    rises: &[u64],
-    adjustment: &[u64],
-    at: usize,
-    file: &mut [u8],
-) -> usize
-    requires c_len_bound { let columns = final_demand.now ∷ exports.now ∷ imports.now ∷ value_added.now ∷ production.now ∷ rises.now ∷ adjustment.now ∷ [] in
-        (c : ℕ) → c < length column_kinds → (length (get_or columns c []) ≤ sector_limit) × ((k : ℕ) → cell (get_or columns c []) k ≤ amount_limit) }
-    requires adjustment_in_bounds { at + length (encode_all (words_entries sector_limit (final_demand.now ∷ exports.now ∷ imports.now ∷ value_added.now ∷ production.now ∷ rises.now ∷ adjustment.now ∷ []))) ≤ length file.old }
-    ensures value { result ≡ at + length (encode_all (words_entries sector_limit (final_demand.now ∷ exports.now ∷ imports.now ∷ value_added.now ∷ production.now ∷ rises.now ∷ adjustment.now ∷ []))) }
-    ensures file_after { file.new ≡ sets file.old at (encode_all (words_entries sector_limit (final_demand.now ∷ exports.now ∷ imports.now ∷ value_added.now ∷ production.now ∷ rises.now ∷ adjustment.now ∷ []))) }
+fn put_columns(columns: &[&[u64]; COLUMNS], at: usize, file: &mut [u8]) -> usize
+    requires columns { (c : ℕ) → c < length column_kinds
+        → (length (get_or (map (λ s. s.now) columns.now) c []) ≤ sector_limit) × ((k : ℕ) → cell (get_or (map (λ s. s.now) columns.now) c []) k ≤ amount_limit) }
+    requires room { at + length (encode_all (words_entries sector_limit (map (λ s. s.now) columns.now))) ≤ length file.old }
+    ensures value { result ≡ at + length (encode_all (words_entries sector_limit (map (λ s. s.now) columns.now))) }
+    ensures file_after { file.new ≡ sets file.old at (encode_all (words_entries sector_limit (map (λ s. s.now) columns.now))) }
 {
-    let first = put_word(SECTORS, final_demand, at, file);
-    let second = put_word(SECTORS + 1, exports, first, file);
-    let third = put_word(SECTORS + 2, imports, second, file);
-    let fourth = put_word(SECTORS + 3, value_added, third, file);
-    let fifth = put_word(SECTORS + 4, production, fourth, file);
-    let sixth = put_word(SECTORS + 5, rises, fifth, file);
-    put_word(SECTORS + 6, adjustment, sixth, file)
+    let mut next = at;
+    for (c, column) in columns.iter().enumerate() {
+        next = put_word(SECTORS + c, column, next, file);
+    }
+    next
 }
 
 // The file of a table whose slices have their lengths, from the start of bytes that hold it.
-pub fn put_table(
-    n: usize,
-    x: &[u64],
-    final_demand: &[u64],
-    exports: &[u64],
-    imports: &[u64],
-    value_added: &[u64],
-    production: &[u64],
-    adjustment: &[u64],
-    rises: &[u64],
-    file: &mut [u8],
-) -> usize
-    requires { let t = table_from n (slices_of x.now final_demand.now exports.now imports.now value_added.now production.now adjustment.now rises.now) in
+#[tactic(auto, using(crate::proofs::TableLaws::table_length))]
+pub fn put_table(table: &Table, rises: &[u64], file: &mut [u8]) -> usize
+    requires { let t = table_from table.now.sectors (slices_lent table.now rises.now) in
         TableSizes t × TableAmounts t × (length (written t) ≤ length file.old) }
-    ensures value { result ≡ length (written (table_from n (slices_of x.now final_demand.now exports.now imports.now value_added.now production.now adjustment.now rises.now))) }
-    ensures file_after { file.new ≡ sets file.old 0 (written (table_from n (slices_of x.now final_demand.now exports.now imports.now value_added.now production.now adjustment.now rises.now))) }
+    ensures value { result ≡ length (written (table_from table.now.sectors (slices_lent table.now rises.now))) }
+    ensures file_after { file.new ≡ sets file.old 0 (written (table_from table.now.sectors (slices_lent table.now rises.now))) }
 {
-    let opening = [1u8, n as u8];
-    let flows = put_bytes(&opening, 0, file);
-    let columns = put_rows(n, x, flows, file);
-    let end = put_columns(
-        final_demand,
-        exports,
-        imports,
-        value_added,
-        production,
+    let columns = [
+        table.final_demand,
+        table.exports,
+        table.imports,
+        table.value_added,
+        table.production,
         rises,
-        adjustment,
-        columns,
-        file,
-    );
-    put_byte(8, end, file)
+        table.adjustment,
+    ];
+    let flows_at = put_bytes(&[Kind::Sectors as u8, table.sectors as u8], 0, file);
+    let columns_at = put_rows(table.sectors, table.flows, flows_at, file);
+    let end = put_columns(&columns, columns_at, file);
+    put_byte(Kind::End as u8, end, file)
 }

@@ -6,7 +6,7 @@ ghost use Rattle.model.specs.CallContracts.{FileRead, slices_of};
 
 use file_cells::read_called;
 use file_delivery::deliver;
-use model::{CELLS, TableRead};
+use model::{CELLS, Refusal, TableRead};
 
 // Reads a table file of any bytes into slices of any lengths. After a refusal every slice is 0; the marks are 0 after every call. What it promises is
 // `FileRead`.
@@ -21,7 +21,7 @@ pub fn read_table(
     adjustment: &mut [u64],
     rises: &mut [u64],
     marks: &mut [u64],
-) -> TableRead
+) -> Result<TableRead, Refusal>
     ensures { FileRead file.now
         (slices_of x.old final_demand.old exports.old imports.old value_added.old production.old adjustment.old rises.old) marks.old (report_read result)
         (slices_of x.new final_demand.new exports.new imports.new value_added.new production.new adjustment.new rises.new) marks.new }

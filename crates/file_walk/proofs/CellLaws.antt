@@ -17,7 +17,7 @@ use Rattle.theory.proofs.Lists.{zeros_part}
 use Rattle.file_walk.specs.Steps.{Held}
 
 -- a row starts at most 1,560 cells in
-pub row_start : (n word : ℕ) → n ≤ sector_limit → word < n → word * n ≤ 1560
+row_start : (n word : ℕ) → n ≤ sector_limit → word < n → word * n ≤ 1560
 row_start n word a b = mul-le-mul (let h : word ≤ 39 = omega arith in h) a
 
 -- a store outside the part of a column

@@ -1,11 +1,10 @@
 -- What the functions of the walk owe each other. The cells lie in one list of 1,880: the 1,600 of x, then 40 for each of seven columns, so that word c of
 -- a column starts at c × 40.
-use Rattle.std.specs.Prelude.{List, ◌≡◌, ℕ, ◌*◌, ◌≤◌, ◌<◌, length, take, drop}
+use Rattle.std.specs.Prelude.{List, ◌≡◌, ℕ, ◌*◌, ◌≤◌, ◌<◌, length, take, drop, Result, Ok, Err}
 use Rattle.model.specs.Table.{sector_limit, sheet_limit}
 use Rattle.model.specs.File.{Entry, Reading, flows_read, column_read, cell_limit, word_limit}
-use Rattle.file_steps.specs.declared.Walked.{Walked}
-use Rattle.file_steps.specs.declared.Walked.TheVariants.{Refused, Table}
-use Rattle.file_steps.specs.Steps.{Agrees}
+use Rattle.model.specs.declared.Refusal.{Refusal}
+use Rattle.file_steps.specs.Steps.{Agrees, reading_refused}
 
 -- the list holds the cells of a reading
 pub record Held (o : Reading) (cells : List ℕ) : Type 0 where
@@ -25,6 +24,6 @@ pub record Accepts (o : Reading) (n : ℕ) (cells marks : List ℕ) : Type 0 whe
   pub kept : Kept n es cells marks
 
 -- what the walk comes to at its end, and on acceptance the cells and the marks
-abbrev pub Ends : Reading → Walked → (cells marks : List ℕ) → Type 0
-Ends o (Refused q p) cells marks = o ≡ Reading.refused q p
-Ends o (Table n) cells marks = Accepts o n cells marks
+abbrev pub Ends : Reading → Result ℕ Refusal → (cells marks : List ℕ) → Type 0
+Ends o (Err e) cells marks = o ≡ reading_refused e
+Ends o (Ok n) cells marks = Accepts o n cells marks

@@ -4,10 +4,10 @@
 ghost use Rattle.model.specs.Checks.{report_rounds};
 ghost use Rattle.model.specs.CallContracts.{Compared};
 
+use cells::Matrix;
 use impact_checks::check_impact;
 use impact_rounds::compare;
-use model::{Answer, Outcome};
-use production::refuse;
+use model::Refusal;
 
 // The rise of each sector's production from the demand `before` to the demand `after`. What it promises is `Compared`.
 pub fn impact(
@@ -18,12 +18,15 @@ pub fn impact(
     budget: u32,
     out: &mut [u64],
     work: &mut [u64],
-) -> Outcome
+) -> Result<u32, Refusal>
     ensures { Compared n d.now before.now after.now budget out.old work.old (report_rounds result) out.new work.new }
 {
-    let checked = check_impact(n, d, before, after, out.len(), work.len());
-    match checked {
-        Answer::Refused { number, place } => refuse(number, place, out, work),
-        Answer::Accepted => compare(n, d, before, after, budget, out, work),
-    }
+    out.fill(0);
+    work.fill(0);
+    check_impact(n, d, before, after, out.len(), work.len())?;
+    let matrix = Matrix {
+        sectors: n,
+        cells: d,
+    };
+    compare(&matrix, before, after, budget, out, work)
 }

@@ -2,71 +2,62 @@
 #![tactic(auto)]
 
 ghost use Rattle.std.specs.Prelude.{◌≡◌, length};
-ghost use Rattle.model.specs.Numbers.{at, tabulate};
+ghost use Rattle.model.specs.Numbers.{tabulate};
 ghost use Rattle.model.specs.Checks.{report_rounds};
 ghost use Rattle.model.specs.Promises.{NowhereBelow, added};
-ghost use Rattle.theory_rounds.specs.Search.{Settleable};
-ghost use Rattle.impact_rounds.specs.Comparing.{BothSettled};
+ghost use Rattle.cells.specs.Sheets.{sheet_of};
+ghost use Rattle.impact_rounds.specs.Comparing.{BothSettleable, BothSettled};
 
-use cells::{fill_zero, larger};
-use model::{Outcome, SECTORS};
+use cells::Matrix;
+use model::{Refusal, SECTORS};
 use settle_loop::settle;
 
 // Takes the first production off the second, which `out` holds.
 fn subtract(n: usize, first: &[u64], out: &mut [u64])
-    requires { (length first.now ≡ n) × (length out.old ≡ n) × NowhereBelow n first.now out.old }
+    requires sizes { (length first.now ≡ n) × (length out.old ≡ n) }
+    requires below { NowhereBelow n first.now out.old }
     ensures { out.new ≡ tabulate n (added first.now out.old) }
 {
-    for i in 0..n {
-        out[i] = out[i] - first[i];
+    for (i, &amount) in first.iter().enumerate() {
+        out[i] -= amount;
     }
 }
 
 // Settles both demands and leaves the rise, with the larger count of rounds; or number 9, with the outputs at 0. The first production stands in
 // `first`; the work cells are cleared.
 fn settle_both(
-    n: usize,
-    d: &[u64],
+    d: &Matrix,
     before: &[u64],
     after: &[u64],
     budget: u32,
     first: &mut [u64],
     out: &mut [u64],
     work: &mut [u64],
-) -> Outcome
-    requires settleable { Settleable n d.now before.now × Settleable n d.now after.now × NowhereBelow n before.now after.now }
-    requires first_len { (length first.old ≡ n) × (length out.old ≡ n) × (length work.old ≡ n) }
-    ensures { BothSettled n (at n d.now) before.now after.now budget (report_rounds result) out.new work.new }
+) -> Result<u32, Refusal>
+    requires demands { BothSettleable d.now before.now after.now }
+    requires sizes { (length first.old ≡ d.now.sectors) × (length out.old ≡ d.now.sectors) × (length work.old ≡ d.now.sectors) }
+    ensures { BothSettled d.now.sectors (sheet_of d.now) before.now after.now budget (report_rounds result) out.new work.new }
 {
-    let earlier = settle(n, d, before, budget, first, work);
-    let Outcome::Settled { rounds: k } = earlier else {
-        fill_zero(out);
-        return earlier;
-    };
-    let later = settle(n, d, after, budget, out, work);
-    let Outcome::Settled { rounds: m } = later else {
-        return later;
-    };
-    subtract(n, first, out);
-    Outcome::Settled {
-        rounds: larger(k, m),
-    }
+    out.fill(0);
+    let earlier = settle(d, before, budget, first, work)?;
+    let later = settle(d, after, budget, out, work)?;
+    subtract(d.sectors, first, out);
+    Ok(earlier.max(later))
 }
 
 // The same, with cells of its own for the first production.
 pub fn compare(
-    n: usize,
-    d: &[u64],
+    d: &Matrix,
     before: &[u64],
     after: &[u64],
     budget: u32,
     out: &mut [u64],
     work: &mut [u64],
-) -> Outcome
-    requires settleable { Settleable n d.now before.now × Settleable n d.now after.now × NowhereBelow n before.now after.now }
-    requires out_len { (length out.old ≡ n) × (length work.old ≡ n) }
-    ensures { BothSettled n (at n d.now) before.now after.now budget (report_rounds result) out.new work.new }
+) -> Result<u32, Refusal>
+    requires demands { BothSettleable d.now before.now after.now }
+    requires sizes { (length out.old ≡ d.now.sectors) × (length work.old ≡ d.now.sectors) }
+    ensures { BothSettled d.now.sectors (sheet_of d.now) before.now after.now budget (report_rounds result) out.new work.new }
 {
     let mut first = [0u64; SECTORS];
-    settle_both(n, d, before, after, budget, &mut first[..n], out, work)
+    settle_both(d, before, after, budget, &mut first[..d.sectors], out, work)
 }

@@ -2,67 +2,71 @@
 #![tactic(auto)]
 
 ghost use Rattle.std.specs.Prelude.{[], ◌∷◌, ◌≡◌, ℕ, ◌*◌, ◌<◌, ◌≤◌, length};
-ghost use Rattle.model.specs.Numbers.{at, cell, one, sum};
+ghost use Rattle.model.specs.Numbers.{cell, one, sum};
 ghost use Rattle.model.specs.Table.{sector_limit};
 ghost use Rattle.model.specs.Rounds.{induced_imports, induced_value_added};
 ghost use Rattle.model.specs.Checks.{amount_limit, induced_amounts, production_limit, report, verdict};
 ghost use Rattle.model.specs.Calls.{induced_report};
 ghost use Rattle.model.specs.CallContracts.{Induced};
+ghost use Rattle.cells.specs.Sheets.{sheet_of};
 
-use cells::{fill_zero, intermediate_use};
-use checks::{check_sizes, matrix_within, next_within, total_within};
-use model::{AMOUNT_LIMIT, Answer, ONE};
+use cells::Matrix;
+use checks::{Part, check_sizes, matrix_within, parts_within, total_within};
+use model::{ONE, Refusal};
 use shares::portion_of;
 
 // Question 3: shares within one, amounts within 1,000,000,000.
-fn check_shares(n: usize, a: &[u64], m: &[u64], v: &[u64], final_demand: &[u64]) -> Answer
-    requires { (n ≤ sector_limit) × (length a.now ≡ n * n) × (length m.now ≡ n) × (length v.now ≡ n) × (length final_demand.now ≡ n) }
+fn check_shares(
+    n: usize,
+    a: &[u64],
+    m: &[u64],
+    v: &[u64],
+    final_demand: &[u64],
+) -> Result<(), Refusal>
+    requires few { n ≤ sector_limit }
+    requires sizes { (length a.now ≡ n * n) × (length m.now ≡ n) × (length v.now ≡ n) × (length final_demand.now ≡ n) }
     ensures { report result ≡ verdict (induced_amounts a.now m.now v.now final_demand.now) [] }
 {
-    let inputs = matrix_within(n, a, ONE);
-    let from_imports = a.len();
-    let imports = next_within(inputs, from_imports, ONE, m);
-    let from_values = from_imports + m.len();
-    let values = next_within(imports, from_values, ONE, v);
-    let from_demand = from_values + v.len();
-    next_within(values, from_demand, AMOUNT_LIMIT, final_demand)
+    matrix_within(n, a, ONE)?;
+    parts_within(
+        a.len(),
+        &[
+            Part::shares(m),
+            Part::shares(v),
+            Part::amounts(final_demand),
+        ],
+    )
 }
 
 // Induced value added: each sector's share of its production.
 fn fill_induced_value_added(n: usize, v: &[u64], y: &[u64], out: &mut [u64])
-    requires v_len { (length v.now ≡ n) × (length y.now ≡ n) × (length out.old ≡ n) }
-    requires by_index { (i : ℕ) → i < n → cell v.now i ≤ one }
-    requires y_bound { sum n (cell y.now) ≤ production_limit }
+    requires sizes { (length v.now ≡ n) × (length y.now ≡ n) × (length out.old ≡ n) }
+    requires shares { (i : ℕ) → i < n → cell v.now i ≤ one }
+    requires total { sum n (cell y.now) ≤ production_limit }
     ensures { out.new ≡ induced_value_added n v.now y.now }
 {
-    for j in 0..n {
-        out[j] = portion_of(v[j], y[j]);
+    for (j, &share) in v.iter().enumerate() {
+        out[j] = portion_of(share, y[j]);
     }
 }
 
 // Induced imports: each sector's import share of what industry and final demand need of it.
-fn fill_induced_imports(
-    n: usize,
-    a: &[u64],
-    m: &[u64],
-    final_demand: &[u64],
-    y: &[u64],
-    out: &mut [u64],
-)
-    requires a_len { (length a.now ≡ n * n) × (length m.now ≡ n) × (length final_demand.now ≡ n) × (length y.now ≡ n) × (length out.old ≡ n) }
-    requires by_index { (i : ℕ) → i < n * n → cell a.now i ≤ one }
-    requires by_index_2 { (i : ℕ) → i < n → cell m.now i ≤ one }
-    requires by_index_3 { (i : ℕ) → i < n → cell final_demand.now i ≤ amount_limit }
-    requires y_bound { sum n (cell y.now) ≤ production_limit }
-    ensures { out.new ≡ induced_imports n (at n a.now) m.now final_demand.now y.now }
+fn fill_induced_imports(a: &Matrix, m: &[u64], final_demand: &[u64], y: &[u64], out: &mut [u64])
+    requires sizes { (length m.now ≡ a.now.sectors) × (length final_demand.now ≡ a.now.sectors) × (length y.now ≡ a.now.sectors) × (length out.old ≡ a.now.sectors) }
+    requires inputs { (i : ℕ) → i < a.now.sectors * a.now.sectors → cell a.now.cells.now i ≤ one }
+    requires imports { (i : ℕ) → i < a.now.sectors → cell m.now i ≤ one }
+    requires demand { (i : ℕ) → i < a.now.sectors → cell final_demand.now i ≤ amount_limit }
+    requires total { sum a.now.sectors (cell y.now) ≤ production_limit }
+    ensures { out.new ≡ induced_imports a.now.sectors (sheet_of a.now) m.now final_demand.now y.now }
 {
-    for i in 0..n {
-        let need = intermediate_use(n, a, y, i);
-        out[i] = portion_of(m[i], need + final_demand[i]);
+    for (i, &share) in m.iter().enumerate() {
+        let need = a.intermediate_use(y, i);
+        out[i] = portion_of(share, need + final_demand[i]);
     }
 }
 
 // Questions 1, 2, 3 and 8.
+#[tactic(auto, unfolding(model::specs::Calls::induced_report))]
 fn check_induced(
     n: usize,
     a: &[u64],
@@ -72,11 +76,10 @@ fn check_induced(
     y: &[u64],
     value_len: usize,
     imports_len: usize,
-) -> Answer
+) -> Result<(), Refusal>
     ensures { report result ≡ induced_report n a.now m.now v.now final_demand.now y.now (value_len ∷ imports_len ∷ []) }
 {
-    let matrices = [a.len()];
-    let lent = [
+    let columns = [
         m.len(),
         v.len(),
         final_demand.len(),
@@ -84,14 +87,8 @@ fn check_induced(
         value_len,
         imports_len,
     ];
-    let sizes = check_sizes(n, &matrices, &lent);
-    let Answer::Accepted = sizes else {
-        return sizes;
-    };
-    let amounts = check_shares(n, a, m, v, final_demand);
-    let Answer::Accepted = amounts else {
-        return amounts;
-    };
+    check_sizes(n, &[a.len()], &columns)?;
+    check_shares(n, a, m, v, final_demand)?;
     total_within(n, y)
 }
 
@@ -106,10 +103,12 @@ pub fn induced(
     production: &[u64],
     value: &mut [u64],
     imports: &mut [u64],
-) -> Answer
+) -> Result<(), Refusal>
     ensures { Induced n a.now m.now v.now final_demand.now production.now value.old imports.old (report result) value.new imports.new }
 {
-    let checked = check_induced(
+    value.fill(0);
+    imports.fill(0);
+    check_induced(
         n,
         a,
         m,
@@ -118,17 +117,12 @@ pub fn induced(
         production,
         value.len(),
         imports.len(),
-    );
-    match checked {
-        Answer::Refused { number, place } => {
-            fill_zero(value);
-            fill_zero(imports);
-            Answer::Refused { number, place }
-        }
-        Answer::Accepted => {
-            fill_induced_value_added(n, v, production, value);
-            fill_induced_imports(n, a, m, final_demand, production, imports);
-            Answer::Accepted
-        }
-    }
+    )?;
+    fill_induced_value_added(n, v, production, value);
+    let matrix = Matrix {
+        sectors: n,
+        cells: a,
+    };
+    fill_induced_imports(&matrix, m, final_demand, production, imports);
+    Ok(())
 }

@@ -1,3 +1,2 @@
--- Laws of rows, and that an inverse is ready for its ratios.
-pub mod Rows
+-- That an inverse is ready for its ratios.
 pub mod Ready

@@ -11,14 +11,15 @@ use borrow.Author.Tests.{eqb-true, eqb-false}
 use lib.Dec.{eqb}
 use lib.ListN.{length, set, replicate, take, length-set, get_or-replicate}
 use lib.Seq.{length-take-le, get_or-take, get_or-set_same, get_or-set_other}
+use Rattle.std.specs.Prelude.{Result, Ok, Err}
 use Rattle.model.specs.Numbers.{one, largest, cell, at}
 use Rattle.model.specs.Table.{sector_limit}
 use Rattle.model.specs.Rounds.{settling, settled, unit, inverse, inverse_rounds}
 use Rattle.model.specs.Checks.{accepts, refuses, report_rounds, verdict, output, settles, columns_settle}
 use Rattle.model.specs.Calls.{matrix_checks, inverse_report}
 use Rattle.model.specs.Promises.{AcceptedMatrix}
-use Rattle.model.specs.declared.Outcome.{Outcome}
-use Rattle.model.specs.declared.Outcome.TheVariants.{Settled, Refused}
+use Rattle.model.specs.Questions.{number}
+use Rattle.model.specs.declared.Refusal.{Refusal}
 use Rattle.theory.specs.Slices.{Each}
 use Rattle.inverse_columns.specs.Filling.{ColumnFilled}
 use Rattle.theory.proofs.Lists.{All, all_none, all_more, length-tabulate, tabulated}
@@ -71,9 +72,9 @@ module _ (n : ℕ) (d : List ℕ) (budget : ℕ) where
   filled_none sheet e =
       record { cells = e; counts = refl; settle = all_none (columns_settle n d budget).passes; columns = below_none _ }
 
-  module _ {j : ℕ} {sheet : List ℕ} {most : ℕ} (F : Filled j sheet most) {r : Outcome} {after : List ℕ} (C : ColumnFilled n d budget j sheet (report_rounds r) after) where
+  module _ {j : ℕ} {sheet : List ℕ} {most : ℕ} (F : Filled j sheet most) {r : Result ℕ Refusal} {after : List ℕ} (C : ColumnFilled n d budget j sheet (report_rounds r) after) where
     -- one column more
-    pub filled_more : {k m : ℕ} → r ≡ Settled k → m ≡ max most k → length after ≡ length sheet → Filled (j + 1) after m
+    pub filled_more : {k m : ℕ} → r ≡ Ok k → m ≡ max most k → length after ≡ length sheet → Filled (j + 1) after m
     filled_more {k} e g l =
         let p = single_accepted 9 (count j) k (settles n (at n d) (unit n j) budget) (sym (ap report_rounds e) ∙ C.answer) in
         record {
@@ -82,14 +83,14 @@ module _ (n : ℕ) (d : List ℕ) (budget : ℕ) where
           settle = all_more (columns_settle n d budget).passes j F.settle p.0;
           columns = below_more (λ k. (i : ℕ) → i < n → at n after i k ≡ cell (column k) i) j
               (λ k h i m. C.kept i k h ∙ F.columns k h i m)
-              (λ i m. C.column i m ∙ ap (λ (o : Outcome). cell (output (report_rounds o) n (column j)) i) e);
+              (λ i m. C.column i m ∙ ap (λ (o : Result ℕ Refusal). cell (output (report_rounds o) n (column j)) i) e);
         }
 
     -- the first that does not settle
-    pub filled_stop : {q p : ℕ} → j < n → r ≡ Refused q p → refuses 1 9 j ≡ verdict (columns_settle n d budget ∷ []) (inverse_rounds n d budget ∷ [])
-    filled_stop {q} {p} h e =
+    pub filled_stop : {q : Refusal} → j < n → r ≡ Err q → refuses 1 9 j ≡ verdict (columns_settle n d budget ∷ []) (inverse_rounds n d budget ∷ [])
+    filled_stop {q} h e =
         sym (failed_each 9 n (columns_settle n d budget).passes [] (inverse_rounds n d budget ∷ []) j h F.settle
-        (single_refused 9 (count j) q p (settles n (at n d) (unit n j) budget) (sym (ap report_rounds e) ∙ C.answer)))
+        (single_refused 9 (count j) (number q.question) q.place (settles n (at n d) (unit n j) budget) (sym (ap report_rounds e) ∙ C.answer)))
 
   -- all of them
   pub filled_all : {j : ℕ} {sheet : List ℕ} {most : ℕ} → Filled j sheet most → 1 ≤ n → j ≤ n → n ≤ j

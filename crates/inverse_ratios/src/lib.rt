@@ -1,45 +1,88 @@
 // The ratios of a sheet: each column sum, or each row sum, against all cells.
 #![tactic(auto)]
 
-ghost use Rattle.std.specs.Prelude.{◌≡◌, ◌*◌, ◌<◌, length};
-ghost use Rattle.model.specs.Numbers.{at, oriented, column_sum, all_cells};
+ghost use Rattle.std.specs.Prelude.{◌≡◌, ℕ, ◌^◌, ◌<◌, ◌≤◌, length};
+ghost use Rattle.std.specs.List.{sum as list_sum};
+ghost use Rattle.model.specs.Numbers.{Sheet, cell, tabulate, transposed, column_sum};
+ghost use Rattle.model.specs.Table.{sector_limit};
 ghost use Rattle.model.specs.Rounds.{dispersion};
-ghost use Rattle.inverse_ratios.specs.Columns.{Dispersed};
+ghost use Rattle.cells.specs.Sheets.{sheet_of};
+ghost use Rattle.inverse_ratios.specs.Columns.{Dispersed, Summed, against_all, inverse_column_limit};
 
-use cells::cell_at;
+use cells::Matrix;
 use model::ONE;
 
-// The sum of column j of a sheet; by rows, of its row j.
-fn column_sum(n: usize, sheet: &[u64], by_rows: bool, j: usize) -> u64
-    requires { (length sheet.now ≡ n * n) × Dispersed n (oriented by_rows (at n sheet.now)) × (j < n) }
-    ensures { result ≡ column_sum n (oriented by_rows (at n sheet.now)) j }
+// The sum of all cells of a slice.
+fn total(cells: &[u64]) -> u64
+    requires { list_sum cells.now < 2 ^ 64 }
+    ensures { result ≡ list_sum cells.now }
 {
-    let mut sum: u64 = 0;
-    for i in 0..n {
-        sum += cell_at(n, sheet, by_rows, i, j);
+    cells.iter().sum()
+}
+
+// The sum of column j of a sheet.
+fn column_sum(sheet: &Matrix, j: usize) -> u64
+    requires within { j < sheet.now.sectors }
+    requires dispersed { Dispersed sheet.now.sectors (sheet_of sheet.now) }
+    ensures { result ≡ column_sum sheet.now.sectors (sheet_of sheet.now) j }
+{
+    let mut sum = 0;
+    // A column is every n-th cell.
+    for i in 0..sheet.sectors {
+        sum += sheet.at(i, j);
     }
     sum
 }
 
-// The sum of all cells, column by column or row by row.
-fn all_cells(n: usize, sheet: &[u64], by_rows: bool) -> u64
-    requires { (length sheet.now ≡ n * n) × Dispersed n (oriented by_rows (at n sheet.now)) }
-    ensures { result ≡ all_cells n (oriented by_rows (at n sheet.now)) }
+// The sum of row i of a sheet.
+fn row_sum(sheet: &Matrix, i: usize) -> u64
+    requires within { i < sheet.now.sectors }
+    requires dispersed { Dispersed sheet.now.sectors (sheet_of sheet.now) }
+    ensures { result ≡ column_sum sheet.now.sectors (transposed (sheet_of sheet.now)) i }
 {
-    let mut total: u64 = 0;
-    for j in 0..n {
-        total += column_sum(n, sheet, by_rows, j);
-    }
-    total
+    let n = sheet.sectors;
+    total(&sheet.cells[i * n..(i + 1) * n])
 }
 
-// Each column sum against all cells, which is the power of dispersion; by rows, each row sum, which is the sensitivity.
-pub fn fill_dispersion(n: usize, sheet: &[u64], by_rows: bool, out: &mut [u64])
-    requires { (length sheet.now ≡ n * n) × Dispersed n (oriented by_rows (at n sheet.now)) × (length out.old ≡ n) }
-    ensures { out.new ≡ dispersion n (oriented by_rows (at n sheet.now)) }
+// Sets each sum against all of them together: times the sectors and one, divided by their total and rounded down.
+fn fill_ratios(n: usize, sums: &mut [u64])
+    requires { Summed n sums.old }
+    ensures { sums.new ≡ tabulate n (against_all n sums.old) }
 {
-    let total = all_cells(n, sheet, by_rows);
-    for j in 0..n {
-        out[j] = column_sum(n, sheet, by_rows, j) * (n as u64) * ONE / total;
+    let total = total(sums);
+    for sum in sums.iter_mut() {
+        *sum = *sum * (n as u64) * ONE / total;
     }
+}
+
+// The ratios of n sums, each of which is given.
+fn fill_dispersion<S: Fn(usize) -> u64>(n: usize, sum: S, out: &mut [u64])
+    requires sectors { (1 ≤ n) × (n ≤ sector_limit) × (length out.old ≡ n) }
+    requires given { (i : ℕ) → i < n → S.pre sum i }
+    requires small { (i r : ℕ) → i < n → S.post sum i r → r ≤ inverse_column_limit }
+    requires positive { (r : ℕ) → S.post sum 0 r → 1 ≤ r }
+    ensures { (c : Sheet) → ((i r : ℕ) → i < n → S.post sum i r → r ≡ column_sum n c i) → out.new ≡ dispersion n c }
+{
+    for (i, ratio) in out.iter_mut().enumerate() {
+        *ratio = sum(i);
+    }
+    fill_ratios(n, out);
+}
+
+// The power of dispersion: each column sum against all cells.
+pub fn fill_power(sheet: &Matrix, out: &mut [u64])
+    requires sizes { length out.old ≡ sheet.now.sectors }
+    requires dispersed { Dispersed sheet.now.sectors (sheet_of sheet.now) }
+    ensures { out.new ≡ dispersion sheet.now.sectors (sheet_of sheet.now) }
+{
+    fill_dispersion(sheet.sectors, |j| column_sum(sheet, j), out);
+}
+
+// The sensitivity of dispersion: each row sum against all cells.
+pub fn fill_sensitivity(sheet: &Matrix, out: &mut [u64])
+    requires sizes { length out.old ≡ sheet.now.sectors }
+    requires dispersed { Dispersed sheet.now.sectors (sheet_of sheet.now) }
+    ensures { out.new ≡ dispersion sheet.now.sectors (transposed (sheet_of sheet.now)) }
+{
+    fill_dispersion(sheet.sectors, |i| row_sum(sheet, i), out);
 }

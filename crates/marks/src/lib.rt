@@ -5,8 +5,6 @@ ghost use Rattle.std.specs.Prelude.{◌&&◌, ◌||◌, ◌≡◌, ℕ, ◌<◌,
 ghost use Rattle.model.specs.Numbers.{word_positions, set_positions};
 ghost use Rattle.model.specs.File.{marked, mark_total, word_limit};
 
-use cells::fill_zero;
-
 // Was the cell named before?
 pub fn is_marked(marks: &[u64], word: usize, position: usize) -> bool
     requires { (word < length marks.now) × (position < word_positions) }
@@ -20,15 +18,14 @@ pub fn mark(marks: &mut [u64], word: usize, position: usize)
     requires { (word < length marks.old) × (position < word_positions) }
     ensures { (i k : ℕ) → marked marks.new i k ≡ (eqb word i && eqb position k || marked marks.old i k) }
 {
-    let before = marks[word];
-    marks[word] = before | (1u64 << position);
+    marks[word] |= 1u64 << position;
 }
 
 // The ones of a word, by the machine's own count.
 pub fn ones(word: u64) -> usize
     ensures { result ≡ set_positions word }
 {
-    u64::count_ones(word) as usize
+    word.count_ones() as usize
 }
 
 // How many cells are marked: the ones of every word.
@@ -37,8 +34,8 @@ pub fn count_marks(marks: &[u64]) -> usize
     ensures { result ≡ mark_total marks.now }
 {
     let mut total: usize = 0;
-    for word in 0..marks.len() {
-        total += ones(marks[word]);
+    for &word in marks {
+        total += ones(word);
     }
     total
 }
@@ -49,6 +46,6 @@ pub fn take_total(marks: &mut [u64]) -> usize
     ensures { (result ≡ mark_total marks.old) × (marks.new ≡ replicate (length marks.old) 0) }
 {
     let counted = count_marks(marks);
-    fill_zero(marks);
+    marks.fill(0);
     counted
 }

@@ -2,11 +2,12 @@
 -- of its slices after the call. A call says it of `report answer`, its C function of `report_told number place counts`. No result is left open:
 -- number, place, counts and every lent cell are those of the definitions.
 use Rattle.std.specs.Prelude.{◌≡◌, ◌↔◌, true, List, [], ◌∷◌, ◌++◌, map, reverse, ℕ, ◌*◌, ◌≤◌, ◌<◌, length, get_or, take, replicate}
+use Rattle.model.specs.declared.Table.{Table as LentTable}
 use Rattle.model.specs.Numbers.{Cells, SignedCells, signed, sum, cell, at, transposed}
 use Rattle.model.specs.Table.{Table, table_of, table_by, column, final_demand, exports, adjustment, domestic_demand}
 use Rattle.model.specs.Bytes.{Bytes, padded}
 use Rattle.model.specs.Rounds.{settled, Settles, implied_demand, induced_value_added, induced_imports, inverse, dispersion, settling, impact}
-use Rattle.model.specs.Checks.{Report, accepts, verdict, output, signed_output, report_read, rounds_of, sectors_of, bytes_of, table_amounts, column_sums, demand_limit, demand_checks, production_budget, price_budget}
+use Rattle.model.specs.Checks.{Report, accepts, verdict, output, signed_output, rounds_of, sectors_of, bytes_of, table_amounts, column_sums, demand_limit, demand_checks, production_budget, price_budget}
 use Rattle.model.specs.Calls.{table_checks, coefficients_report, input_coefficients, value_added_coefficients, import_coefficients, domestic_coefficients, table_demand, domestic_demand_report, production_report, price_report, implied_report, induced_report, inverse_report, impact_report}
 use Rattle.model.specs.Aggregation.{merged_table, group_sizes, aggregate_report}
 use Rattle.model.specs.Permutation.{inverse_list, permuted_table, permute_report}
@@ -196,6 +197,10 @@ abbrev pub slices_of : (x f e m v p g w : Cells) → Slices
 slices_of x f e m v p g w =
     record { flows = x; final_demand = f; exports = e; imports = m; value_added = v; production = p; adjustment = g; rises = w }
 
+-- of a table as the code lends it, with the rises beside it
+abbrev pub slices_lent : LentTable → (w : Cells) → Slices
+slices_lent t w = slices_of t.flows.now t.final_demand.now t.exports.now t.imports.now t.value_added.now t.production.now t.adjustment.now w
+
 -- its seven columns
 abbrev pub columns_of : Slices → List Cells
 columns_of s = s.final_demand ∷ s.exports ∷ s.imports ∷ s.value_added ∷ s.production ∷ s.adjustment ∷ s.rises ∷ []
@@ -222,7 +227,7 @@ pub record Beyond (n : ℕ) (s : Slices) : Type 0 where
 
 -- A table file read into slices. `beyond` speaks of the n that the answer tells: after a refusal that is 0, and so is every cell
 pub record FileRead (file : Bytes) (s₀ : Slices) (marks₀ : Cells) (r : Report) (s : Slices) (marks : Cells) : Type 0 where
-  pub answer : r ≡ report_read (answer_of (reading_into file s₀ marks₀))
+  pub answer : r ≡ answer_of (reading_into file s₀ marks₀)
   pub delivered : Delivered (reading_into file s₀ marks₀) s₀ s
   pub beyond : Beyond (sectors_of r) s
   -- document 02, ticket 3: "A file without kind 10 means G = 0", and is read as by document 01's own reader

@@ -1,18 +1,11 @@
 -- Document 01, "Questions a call asks, in this order". A check is a test at each of its places.
-use Rattle.std.specs.Prelude.{Bool, true, false, ◌&&◌, cond, List, [], ◌∷◌, map, ℕ, suc, ◌+◌, ◌*◌, eqb, leb, ltb, pos, length, replicate}
+use Rattle.std.specs.Prelude.{Bool, true, false, ◌&&◌, cond, List, [], ◌∷◌, map, ℕ, suc, ◌+◌, ◌*◌, eqb, leb, ltb, pos, length, replicate, Result, Ok, Err}
 use Rattle.model.specs.Numbers.{Cells, Sheet, SignedCells, one, sum, first, all, cell, at, column_sum}
 use Rattle.model.specs.Table.{Table, few_sectors, flow, need, exports, imports, value_added, production, adjustment, adjusted_exports}
 use Rattle.model.specs.Rounds.{settling, unit}
-use Rattle.model.specs.declared.Answer.{Answer}
-use Rattle.model.specs.declared.Answer.TheVariants.{Accepted, Refused}
-use Rattle.model.specs.declared.Outcome.{Outcome}
-use Rattle.model.specs.declared.Outcome.TheVariants.{Settled, Refused as Outcome-as-Refused}
+use Rattle.model.specs.Questions.{number}
+use Rattle.model.specs.declared.Refusal.{Refusal}
 use Rattle.model.specs.declared.TableRead.{TableRead}
-use Rattle.model.specs.declared.TableRead.TheVariants.{Read, Refused as TableRead-as-Refused}
-use Rattle.model.specs.declared.TableWritten.{TableWritten}
-use Rattle.model.specs.declared.TableWritten.TheVariants.{Written, Refused as TableWritten-as-Refused}
-use Rattle.model.specs.declared.PageWritten.{PageWritten}
-use Rattle.model.specs.declared.PageWritten.TheVariants.{Written as PageWritten-as-Written, Refused as PageWritten-as-Refused}
 
 -- An answer in the paper's numbers: its number, its place, and the other numbers of its answer, which are its counts: none, the rounds, the
 -- sectors and the named cells of a file, or the bytes of a file or of a page that was written
@@ -30,26 +23,29 @@ accepts ks = record { accepted = true; number = 0; place = 0; counts = ks }
 abbrev pub refuses : (counts number place : ℕ) → Report
 refuses k q p = record { accepted = false; number = q; place = p; counts = replicate k 0 }
 
--- what the calls' answers say, case by case
-abbrev pub report : Answer → Report
-report Accepted = accepts []
-report (Refused q p) = refuses 0 q p
+-- what a call's answer says: its counts where it was accepted, and else its question's number and its place
+abbrev pub report_of : {A : Type 0} (counts : ℕ) (told : A → List ℕ) → Result A Refusal → Report
+report_of k told (Ok a) = accepts (told a)
+report_of k told (Err e) = refuses k (number e.question) e.place
 
-abbrev pub report_rounds : Outcome → Report
-report_rounds (Settled k) = accepts (k ∷ [])
-report_rounds (Outcome-as-Refused q p) = refuses 1 q p
+-- of a call without a count
+abbrev pub report : Result Unit Refusal → Report
+report = report_of 0 (λ _. [])
 
-abbrev pub report_read : TableRead → Report
-report_read (Read n k) = accepts (n ∷ k ∷ [])
-report_read (TableRead-as-Refused q p) = refuses 2 q p
+-- of one that works in rounds, with how many it took
+abbrev pub report_rounds : Result ℕ Refusal → Report
+report_rounds = report_of 1 (λ k. k ∷ [])
 
-abbrev pub report_written : TableWritten → Report
-report_written (Written k) = accepts (k ∷ [])
-report_written (TableWritten-as-Refused q p) = refuses 1 q p
+-- of the reader of a table file, with n and how many cells were named
+abbrev pub report_read : Result TableRead Refusal → Report
+report_read = report_of 2 (λ t. t.sectors ∷ t.named ∷ [])
 
-abbrev pub report_page : PageWritten → Report
-report_page (PageWritten-as-Written k) = accepts (k ∷ [])
-report_page (PageWritten-as-Refused q p) = refuses 1 q p
+-- of the writer of a table file, and of the call that writes a page, with how many bytes it has
+abbrev pub report_written : Result ℕ Refusal → Report
+report_written = report_rounds
+
+abbrev pub report_page : Result ℕ Refusal → Report
+report_page = report_rounds
 
 -- and an answer that was told as numbers, as it is to C: it is accepted where its number is 0
 abbrev pub report_told : (number place : ℕ) (counts : List ℕ) → Report

@@ -5,8 +5,7 @@ use Rattle.std.proofs.Math.Bool.{cond}
 use Rattle.model.specs.Numbers.{Cells, sum, all, tabulate, cell, bit, set_positions}
 use Rattle.model.specs.Table.{Table, table_of, sector_limit, sheet_limit, few_sectors}
 use Rattle.model.specs.Bytes.{Bytes}
-use Rattle.model.specs.declared.TableRead.{TableRead}
-use Rattle.model.specs.declared.TableRead.TheVariants.{Read, Refused}
+use Rattle.model.specs.Checks.{Report, accepts, refuses}
 
 -- A named cell, by the bit that marks it: "a row's named cells are marked as bits of one 64-bit word". Words 0 to 39 are for the rows of x, and a
 -- position is a column; the words from 40 on are for the columns in the order of their kinds, and a position is a sector
@@ -199,9 +198,9 @@ unfolding reading_with
 called x columns marks s = let later = reading s in cond (fits x columns marks) later (Reading.refused 2 0)
 
 -- "the result is n and how many cells were named"
-abbrev pub answer_of : Reading → TableRead
-answer_of (Reading.refused q p) = Refused q p
-answer_of (Reading.table n es) = Read n (length es)
+abbrev pub answer_of : Reading → Report
+answer_of (Reading.refused q p) = refuses 2 q p
+answer_of (Reading.table n es) = accepts (n ∷ length es ∷ [])
 
 -- what the call leaves in the slice that is lent for x: after a refusal 0, in the slice's own length
 abbrev pub flows_read : (len : ℕ) → Reading → Cells

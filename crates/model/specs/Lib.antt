@@ -2,7 +2,9 @@
 pub mod Numbers
 pub mod Bytes
 pub mod Table
+pub mod Lent
 pub mod Rounds
+pub mod Questions
 pub mod Checks
 pub mod Calls
 pub mod Aggregation

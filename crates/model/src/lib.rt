@@ -1,6 +1,11 @@
-// The numbers of document 01 as the code has them, and the answers of the public calls. What they mean, and every other definition of document 01,
-// stands in specs/.
+// The numbers of document 01 as the code has them, the questions that a call asks, its refusal, and a table as it is lent. What they mean, and every
+// other definition of document 01, stands in specs/.
 #![tactic(auto)]
+
+ghost use Rattle.std.specs.Prelude.{◌≡◌};
+ghost use Rattle.model.specs.Questions.{number, refused};
+
+use std::fmt;
 
 // "One", the unit of shares and coefficients (`one`).
 pub const ONE: u64 = 1_000_000;
@@ -54,37 +59,81 @@ pub const PRICE_BUDGET: u32 = 1400;
 // The bytes that hold every printed page (`page_limit`).
 pub const PAGE: usize = 39 + SECTORS * 70 + 12;
 
-// A call without a count: accepted, or the number and the place of the first check that fails.
+// The questions of document 01, by their numbers there. Nothing asks 10, which is reserved.
 #[derive(Clone, Copy)]
-pub enum Answer {
-    Accepted,
-    Refused { number: u8, place: usize },
+pub enum Question {
+    Sectors = 1,
+    Lengths = 2,
+    Amounts = 3,
+    ColumnBalance = 4,
+    RowBalance = 5,
+    ImportsCovered = 6,
+    ColumnSums = 7,
+    Demands = 8,
+    Rounds = 9,
+    Record = 11,
+    Opening = 12,
+    SectorByte = 13,
+    NamedTwice = 14,
+    End = 15,
+    AdjustedExports = 16,
+    NotBelow = 17,
+    Partition = 18,
+    GroupTotals = 19,
+    Order = 20,
 }
 
-// A call that works in rounds: how many it took, or the number and the place of the first check that fails.
-#[derive(Clone, Copy)]
-pub enum Outcome {
-    Settled { rounds: u32 },
-    Refused { number: u8, place: usize },
+impl Question {
+    // A refusal by this question, with the place at which it failed.
+    pub fn at(self, place: usize) -> Refusal
+        ensures { result ≡ refused self place }
+    {
+        Refusal {
+            question: self,
+            place,
+        }
+    }
 }
 
-// The reader of a table file: n and how many cells were named, or the number and the place of the first check that fails.
-#[derive(Clone, Copy)]
-pub enum TableRead {
-    Read { sectors: usize, named: usize },
-    Refused { number: u8, place: usize },
+// Its number.
+impl From<Question> for u8 {
+    ghost from_gives = { λ q r. r ≡ number q };
+
+    fn from(question: Question) -> u8 {
+        question as u8
+    }
 }
 
-// The writer of a table file: how many bytes the file has, or the number and the place of the first check that fails.
+// The first check that failed, and its place.
 #[derive(Clone, Copy)]
-pub enum TableWritten {
-    Written { length: usize },
-    Refused { number: u8, place: usize },
+pub struct Refusal {
+    pub question: Question,
+    pub place: usize,
 }
 
-// The call that writes a page: how many bytes the page has, or the number and the place of the first check that fails.
+// As the program prints it: `refused 9 0`.
+impl fmt::Display for Refusal {
+    fn fmt<W: fmt::Write>(&self, f: &mut fmt::Formatter<W>) -> fmt::Result {
+        write!(f, "refused {} {}", u8::from(self.question), self.place)
+    }
+}
+
+// What the reader of a table file tells: n, and how many cells were named.
+#[derive(Clone, Copy, Default)]
+pub struct TableRead {
+    pub sectors: usize,
+    pub named: usize,
+}
+
+// A table as it is lent: n, x row by row, and its columns F, E, M, V, X and G of the paper, in its order. Of any lengths: the calls ask.
 #[derive(Clone, Copy)]
-pub enum PageWritten {
-    Written { length: usize },
-    Refused { number: u8, place: usize },
+pub struct Table<'a> {
+    pub sectors: usize,
+    pub flows: &'a [u64],
+    pub final_demand: &'a [u64],
+    pub exports: &'a [u64],
+    pub imports: &'a [u64],
+    pub value_added: &'a [u64],
+    pub production: &'a [u64],
+    pub adjustment: &'a [u64],
 }

@@ -1,2 +1,3 @@
 -- What contracts of a page cite beside the definitions of `model`.
-pub mod FilePages
+pub mod Cells
+pub mod Prints

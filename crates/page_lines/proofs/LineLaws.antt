@@ -3,7 +3,7 @@ use mathlib.Core.Path.{refl, sym, subst}
 use mathlib.Core.List.{List}
 use Prim.Native.Nat.{ℕ, suc, ◌+◌, ◌≤◌, ◌<◌}
 use native.Mathlib.Decide.{le_ind}
-use native.Mathlib.Nat.{add-zero, le_refl, le_antisymm}
+use native.Mathlib.Nat.{le_refl}
 use native.Mathlib.Numerals.{add-one}
 use native.Mathlib.Omega.{arith}
 use lib.ListN.{length, length-append}
@@ -19,9 +19,6 @@ lines_part w i n =
 pub record Lines (w : ℕ → List ℕ) (i at : ℕ) (l m : List ℕ) (j : ℕ) : Type 0 where
   pub wrote : Wrote (lines_to i w) at l m j
 
-pub no_lines : (w : ℕ → List ℕ) (at : ℕ) (l : List ℕ) → Lines w 0 at l l at
-no_lines w at l = record { wrote = (sym (add-zero at), refl) }
-
 module _ {w : ℕ → List ℕ} {i at j : ℕ} {l m : List ℕ} (p : Lines w i at l m j) where
   -- of one line more, that line is left
   pub line_left : Begun (lines_to (suc i) w) at l m j (w i)
@@ -32,6 +29,3 @@ module _ {w : ℕ → List ℕ} {i at j : ℕ} {l m : List ℕ} (p : Lines w i a
 
   pub line_more : {o : List ℕ} {k : ℕ} → Wrote (w i) j m o k → Lines w (i + 1) at l o k
   line_more {o} {k} q = subst (λ (x : ℕ). Lines w x at l o k) (sym (add-one i)) (record { wrote = done line_left q })
-
-  pub lines_done : (n : ℕ) → i ≤ n → n ≤ i → Wrote (lines_to n w) at l m j
-  lines_done n h g = subst (λ (x : ℕ). Wrote (lines_to x w) at l m j) (le_antisymm h g) p.wrote

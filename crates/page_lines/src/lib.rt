@@ -4,10 +4,20 @@
 ghost use Rattle.std.specs.Prelude.{◌≡◌, ◌∷◌, map, ◌+◌, ◌<◌, ◌≤◌, length};
 ghost use Rattle.std.proofs.lemmas.List.Edits.{sets};
 ghost use Rattle.model.specs.Text.{decimal, line};
-ghost use Rattle.model.specs.Page.{headings, lines_to, refusal_line, rounds_line, sector_line, sheet};
+ghost use Rattle.model.specs.Page.{headings, lines_to, refusal_line, rounds_line};
+ghost use Rattle.page_lines.specs.Lent.{Reach, line_lent, sheet_lent};
 
 use byte_slices::put_bytes;
 use page_text::{put_fields, put_rest};
+
+// The figures of a printed sheet, sector by sector: demand for domestic goods, production, and the value added and the imports that it induces.
+#[derive(Clone, Copy)]
+pub struct Figures<'a> {
+    pub demand: &'a [u64],
+    pub production: &'a [u64],
+    pub value: &'a [u64],
+    pub imports: &'a [u64],
+}
 
 // A word and amounts as one line.
 fn put_labelled(word: &[u8], cells: &[u64], at: usize, out: &mut [u8]) -> usize
@@ -19,13 +29,14 @@ fn put_labelled(word: &[u8], cells: &[u64], at: usize, out: &mut [u8]) -> usize
     put_rest(cells, next, out)
 }
 
-// The line of a refusal: its number, then its place.
+// The line of a refusal: its number, then its place. Of any number, as the definition of the line is.
+#[tactic(auto, unfolding(model::specs::Page::refusal_line))]
 pub fn put_refusal(number: u8, place: usize, out: &mut [u8]) -> usize
     requires { length (refusal_line number place) ≤ length out.old }
     ensures value { result ≡ length (refusal_line number place) }
     ensures out_after { out.new ≡ sets out.old 0 (refusal_line number place) }
 {
-    let cells = [number as u64, place as u64];
+    let cells = [u64::from(number), place as u64];
     put_labelled(b"refused", &cells, 0, out)
 }
 
@@ -39,48 +50,33 @@ fn put_headings(out: &mut [u8]) -> usize
 }
 
 // The line of sector i, which is numbered from 1.
-fn put_sector(
-    i: usize,
-    demand: &[u64],
-    production: &[u64],
-    value: &[u64],
-    imports: &[u64],
-    at: usize,
-    out: &mut [u8],
-) -> usize
-    requires i_in_bounds { (i < length demand.now) × (i < length production.now) × (i < length value.now) × (i < length imports.now) }
-    requires i_in_bounds_2 { at + length (sector_line demand.now production.now value.now imports.now i) ≤ length out.old }
-    ensures value { result ≡ at + length (sector_line demand.now production.now value.now imports.now i) }
-    ensures out_after { out.new ≡ sets out.old at (sector_line demand.now production.now value.now imports.now i) }
+fn put_sector(i: usize, figures: &Figures, at: usize, out: &mut [u8]) -> usize
+    requires sector { Reach (i + 1) figures.now }
+    requires room { at + length (line_lent figures.now i) ≤ length out.old }
+    ensures value { result ≡ at + length (line_lent figures.now i) }
+    ensures out_after { out.new ≡ sets out.old at (line_lent figures.now i) }
 {
     let cells = [
         (i + 1) as u64,
-        demand[i],
-        production[i],
-        value[i],
-        imports[i],
+        figures.demand[i],
+        figures.production[i],
+        figures.value[i],
+        figures.imports[i],
     ];
     put_fields(&cells, at, out)
 }
 
-// The lines of the sectors.
-fn put_sectors(
-    n: usize,
-    demand: &[u64],
-    production: &[u64],
-    value: &[u64],
-    imports: &[u64],
-    at: usize,
-    out: &mut [u8],
-) -> usize
-    requires demand_len { (length demand.now ≡ n) × (length production.now ≡ n) × (length value.now ≡ n) × (length imports.now ≡ n) }
-    requires imports_in_bounds { at + length (lines_to n (sector_line demand.now production.now value.now imports.now)) ≤ length out.old }
-    ensures value { result ≡ at + length (lines_to n (sector_line demand.now production.now value.now imports.now)) }
-    ensures out_after { out.new ≡ sets out.old at (lines_to n (sector_line demand.now production.now value.now imports.now)) }
+// The lines of n sectors.
+fn put_sectors(n: usize, figures: &Figures, at: usize, out: &mut [u8]) -> usize
+    requires sectors { Reach n figures.now }
+    requires room { at + length (lines_to n (line_lent figures.now)) ≤ length out.old }
+    ensures value { result ≡ at + length (lines_to n (line_lent figures.now)) }
+    ensures out_after { out.new ≡ sets out.old at (lines_to n (line_lent figures.now)) }
 {
     let mut next = at;
+    // Four slices are read at one index, which is printed too.
     for i in 0..n {
-        next = put_sector(i, demand, production, value, imports, next, out);
+        next = put_sector(i, figures, next, out);
     }
     next
 }
@@ -91,26 +87,18 @@ fn put_rounds(rounds: u32, at: usize, out: &mut [u8]) -> usize
     ensures value { result ≡ at + length (rounds_line rounds) }
     ensures out_after { out.new ≡ sets out.old at (rounds_line rounds) }
 {
-    let cells = [rounds as u64];
-    put_labelled(b"rounds", &cells, at, out)
+    put_labelled(b"rounds", &[u64::from(rounds)], at, out)
 }
 
-// Headings, a line a sector, and the rounds.
-pub fn put_sheet(
-    n: usize,
-    demand: &[u64],
-    production: &[u64],
-    value: &[u64],
-    imports: &[u64],
-    rounds: u32,
-    out: &mut [u8],
-) -> usize
-    requires demand_len { (length demand.now ≡ n) × (length production.now ≡ n) × (length value.now ≡ n) × (length imports.now ≡ n) }
-    requires rounds_in_bounds { length (sheet n demand.now production.now value.now imports.now rounds) ≤ length out.old }
-    ensures value { result ≡ length (sheet n demand.now production.now value.now imports.now rounds) }
-    ensures out_after { out.new ≡ sets out.old 0 (sheet n demand.now production.now value.now imports.now rounds) }
+// Headings, a line for each of n sectors, and the rounds.
+#[tactic(auto, unfolding(model::specs::Page::sheet))]
+pub fn put_sheet(n: usize, figures: &Figures, rounds: u32, out: &mut [u8]) -> usize
+    requires sectors { Reach n figures.now }
+    requires room { length (sheet_lent n figures.now rounds) ≤ length out.old }
+    ensures value { result ≡ length (sheet_lent n figures.now rounds) }
+    ensures out_after { out.new ≡ sets out.old 0 (sheet_lent n figures.now rounds) }
 {
     let first = put_headings(out);
-    let last = put_sectors(n, demand, production, value, imports, first, out);
+    let last = put_sectors(n, figures, first, out);
     put_rounds(rounds, last, out)
 }

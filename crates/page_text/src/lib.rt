@@ -13,12 +13,12 @@ pub fn put_decimal(amount: u64, at: usize, out: &mut [u8]) -> usize
     ensures value { result ≡ at + length (decimal amount) }
     ensures out_after { out.new ≡ sets out.old at (decimal amount) }
 {
-    let mut next = at;
-    if 10 <= amount {
-        next = put_decimal(amount / 10, at, out);
+    let last = b'0' + (amount % 10) as u8;
+    if amount < 10 {
+        return put_byte(last, at, out);
     }
-    out[next] = 48 + (amount % 10) as u8;
-    next + 1
+    let next = put_decimal(amount / 10, at, out);
+    put_byte(last, next, out)
 }
 
 // A field that follows another: a space, and an amount.
@@ -27,7 +27,7 @@ pub fn put_field(amount: u64, at: usize, out: &mut [u8]) -> usize
     ensures value { result ≡ at + length (32 ∷ decimal amount) }
     ensures out_after { out.new ≡ sets out.old at (32 ∷ decimal amount) }
 {
-    let next = put_byte(32, at, out);
+    let next = put_byte(b' ', at, out);
     put_decimal(amount, next, out)
 }
 
@@ -38,10 +38,10 @@ pub fn put_rest(cells: &[u64], at: usize, out: &mut [u8]) -> usize
     ensures out_after { out.new ≡ sets out.old at (rest (map decimal cells.now)) }
 {
     let mut next = at;
-    for i in 0..cells.len() {
-        next = put_field(cells[i], next, out);
+    for &amount in cells {
+        next = put_field(amount, next, out);
     }
-    put_byte(10, next, out)
+    put_byte(b'\n', next, out)
 }
 
 // Amounts as one line.
@@ -50,9 +50,9 @@ pub fn put_fields(cells: &[u64], at: usize, out: &mut [u8]) -> usize
     ensures value { result ≡ at + length (line (map decimal cells.now)) }
     ensures out_after { out.new ≡ sets out.old at (line (map decimal cells.now)) }
 {
-    if cells.len() == 0 {
-        return put_byte(10, at, out);
-    }
-    let next = put_decimal(cells[0], at, out);
-    put_rest(&cells[1..], next, out)
+    let Some((first, others)) = cells.split_first() else {
+        return put_byte(b'\n', at, out);
+    };
+    let next = put_decimal(*first, at, out);
+    put_rest(others, next, out)
 }

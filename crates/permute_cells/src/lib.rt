@@ -11,12 +11,8 @@ pub fn place_of(n: usize, order: &[u64], sector: u64) -> usize
     requires { length order.now ≡ n }
     ensures { result ≡ place_of n order.now sector }
 {
-    for k in 0..n {
-        if order[k] == sector {
-            return k;
-        }
-    }
-    n
+    // n where there is none, as the definition has it.
+    order.iter().position(|&entry| entry == sector).unwrap_or(n)
 }
 
 // The inverse list: the place of each sector.
@@ -24,32 +20,31 @@ pub fn fill_inverse(n: usize, order: &[u64], inverse: &mut [u64])
     requires { (length order.now ≡ n) × (length inverse.old ≡ n) }
     ensures { inverse.new ≡ inverse_list n order.now }
 {
-    for s in 0..n {
-        inverse[s] = place_of(n, order, s as u64) as u64;
+    for (s, place) in inverse.iter_mut().enumerate() {
+        *place = place_of(n, order, s as u64) as u64;
     }
 }
 
 // A column in the new order.
 pub fn fill_column(n: usize, order: &[u64], column: &[u64], permuted: &mut [u64])
-    requires order_len { (length order.now ≡ n) × (length column.now ≡ n) × (length permuted.old ≡ n) }
-    requires by_index { (k : ℕ) → k < n → cell order.now k < n }
+    requires sizes { (length order.now ≡ n) × (length column.now ≡ n) × (length permuted.old ≡ n) }
+    requires in_column { (k : ℕ) → k < n → cell order.now k < n }
     ensures { permuted.new ≡ permuted_column n order.now column.now }
 {
-    for k in 0..n {
-        permuted[k] = column[order[k] as usize];
+    for (k, &sector) in order.iter().enumerate() {
+        permuted[k] = column[sector as usize];
     }
 }
 
 // The flows in the new order, their rows and their columns.
 pub fn fill_flows(n: usize, order: &[u64], x: &[u64], permuted: &mut [u64])
-    requires le_n { (1 ≤ n) × (n ≤ sector_limit) × (length order.now ≡ n) × (length x.now ≡ n * n) × (length permuted.old ≡ n * n) }
-    requires by_index { (k : ℕ) → k < n → cell order.now k < n }
+    requires sizes { (1 ≤ n) × (n ≤ sector_limit) × (length order.now ≡ n) × (length x.now ≡ n * n) × (length permuted.old ≡ n * n) }
+    requires in_sheet { (k : ℕ) → k < n → cell order.now k < n }
     ensures { permuted.new ≡ permuted_sheet n order.now x.now }
 {
-    let cells = n * n;
-    for k in 0..cells {
+    for (k, cell) in permuted.iter_mut().enumerate() {
         let row = order[k / n] as usize;
         let column = order[k % n] as usize;
-        permuted[k] = x[row * n + column];
+        *cell = x[row * n + column];
     }
 }

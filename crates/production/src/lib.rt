@@ -2,63 +2,58 @@
 #![tactic(auto)]
 
 ghost use Rattle.std.specs.Prelude.{◌≡◌, ℕ, ◌<◌, ◌≤◌, length};
-ghost use Rattle.model.specs.Numbers.{at, cell, transposed};
+ghost use Rattle.model.specs.Numbers.{cell, transposed};
 ghost use Rattle.model.specs.Checks.{report_rounds, demand_limit};
 ghost use Rattle.model.specs.Promises.{AcceptedMatrix};
 ghost use Rattle.model.specs.CallContracts.{Priced, Produced};
-ghost use Rattle.theory_rounds.specs.Search.{Cleared, Settlement};
+ghost use Rattle.theory_rounds.specs.Search.{Settlement};
+ghost use Rattle.cells.specs.Sheets.{sheet_of};
 ghost use Rattle.production.specs.Solving.{Checked};
 
-use cells::{fill_zero, transpose};
-use checks::{cells_within, check_domestic};
-use model::{Answer, DEMAND_LIMIT, Outcome, RISE_LIMIT, SHEET};
+use cells::Matrix;
+use checks::{check_domestic, starts_within};
+use model::{DEMAND_LIMIT, RISE_LIMIT, Refusal, SHEET};
 use settle_loop::settle;
 
-// Questions 1, 2, 7 and 8 of a start and its limit.
+// Sets outputs and work cells to 0, and asks questions 1, 2, 7 and 8 of a start and its limit.
 fn check_start(
     n: usize,
     d: &[u64],
     limit: u64,
     start: &[u64],
-    out_len: usize,
-    work_len: usize,
-) -> Answer
-    ensures { Checked n d.now limit start.now out_len work_len result }
+    out: &mut [u64],
+    work: &mut [u64],
+) -> Result<(), Refusal>
+    ensures { Checked n d.now limit start.now (length out.old) (length work.old) result out.new work.new }
 {
-    let lent = [start.len(), out_len, work_len];
-    let matrix = check_domestic(n, d, &lent);
-    let Answer::Accepted = matrix else {
-        return matrix;
-    };
-    cells_within(8, 0, limit, start)
-}
-
-// A refusal, with 0 in every output and work cell.
-pub fn refuse(number: u8, place: usize, out: &mut [u64], work: &mut [u64]) -> Outcome
-    ensures { Cleared number place (length out.old) (length work.old) (report_rounds result) out.new work.new }
-{
-    fill_zero(out);
-    fill_zero(work);
-    Outcome::Refused { number, place }
+    out.fill(0);
+    work.fill(0);
+    check_domestic(n, d, &[start.len(), out.len(), work.len()])?;
+    starts_within(limit, start)
 }
 
 // Settles down the columns of d: along the rows of a copy with rows and columns exchanged.
 fn settle_columns(
-    n: usize,
-    d: &[u64],
+    d: &Matrix,
     start: &[u64],
     budget: u32,
     out: &mut [u64],
     work: &mut [u64],
-) -> Outcome
-    requires accepted_matrix { AcceptedMatrix n d.now × (length start.now ≡ n) × (length out.old ≡ n) × (length work.old ≡ n) }
-    requires by_index { (i : ℕ) → i < n → cell start.now i ≤ demand_limit }
-    ensures { Settlement n (transposed (at n d.now)) start.now budget (report_rounds result) out.new work.new }
+) -> Result<u32, Refusal>
+    requires accepted { AcceptedMatrix d.now.sectors d.now.cells.now }
+    requires sizes { (length start.now ≡ d.now.sectors) × (length out.old ≡ d.now.sectors) × (length work.old ≡ d.now.sectors) }
+    requires starts { (i : ℕ) → i < d.now.sectors → cell start.now i ≤ demand_limit }
+    ensures { Settlement d.now.sectors (transposed (sheet_of d.now)) start.now budget (report_rounds result) out.new work.new }
 {
-    let mut rows = [0u64; SHEET];
-    let cells = n * n;
-    transpose(n, d, &mut rows[..cells]);
-    settle(n, &rows[..cells], start, budget, out, work)
+    let n = d.sectors;
+    let mut cells = [0u64; SHEET];
+    let rows = &mut cells[..n * n];
+    d.transpose(rows);
+    let exchanged = Matrix {
+        sectors: n,
+        cells: rows,
+    };
+    settle(&exchanged, start, budget, out, work)
 }
 
 // Production from a demand for domestic goods. What it promises is `Produced`.
@@ -69,14 +64,15 @@ pub fn production(
     budget: u32,
     out: &mut [u64],
     work: &mut [u64],
-) -> Outcome
+) -> Result<u32, Refusal>
     ensures { Produced n d.now f.now budget out.old work.old (report_rounds result) out.new work.new }
 {
-    let checked = check_start(n, d, DEMAND_LIMIT, f, out.len(), work.len());
-    match checked {
-        Answer::Refused { number, place } => refuse(number, place, out, work),
-        Answer::Accepted => settle(n, d, f, budget, out, work),
-    }
+    check_start(n, d, DEMAND_LIMIT, f, out, work)?;
+    let matrix = Matrix {
+        sectors: n,
+        cells: d,
+    };
+    settle(&matrix, f, budget, out, work)
 }
 
 // Price rises from direct rises, in millionths. What it promises is `Priced`.
@@ -87,12 +83,13 @@ pub fn price(
     budget: u32,
     out: &mut [u64],
     work: &mut [u64],
-) -> Outcome
+) -> Result<u32, Refusal>
     ensures { Priced n d.now w.now budget out.old work.old (report_rounds result) out.new work.new }
 {
-    let checked = check_start(n, d, RISE_LIMIT, w, out.len(), work.len());
-    match checked {
-        Answer::Refused { number, place } => refuse(number, place, out, work),
-        Answer::Accepted => settle_columns(n, d, w, budget, out, work),
-    }
+    check_start(n, d, RISE_LIMIT, w, out, work)?;
+    let matrix = Matrix {
+        sectors: n,
+        cells: d,
+    };
+    settle_columns(&matrix, w, budget, out, work)
 }

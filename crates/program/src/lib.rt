@@ -2,34 +2,27 @@
 // (`prefix_prints`), so input beyond the buffer cannot change it.
 #![tactic(auto)]
 
-ghost use Rattle.std.specs.Prelude.{length};
-ghost use Rattle.program.specs.Inputs.{Inside};
+ghost use Rattle.std.specs.Prelude.{◌≤◌, IfOk, length};
 
-use model::{PAGE, PageWritten};
+use model::PAGE;
 use page::write_page;
 use std::io;
 use std::io::Read;
 
-// Standard input up to the buffer's end: how many bytes came, or why a read failed.
-#[derive(Drop)]
-enum Input {
-    Came { count: usize },
-    Failed { error: io::Error },
-}
-
-// Reads until the buffer is full, the input ends or a read fails.
-fn read_input<R: Read>(reader: &mut R, buffer: &mut [u8]) -> Input
-    ensures { Inside result (length buffer.old) }
+// Reads until the buffer is full or the input ends: how many bytes came, or why a read failed.
+pub fn read_input<R: Read>(reader: &mut R, buffer: &mut [u8]) -> io::Result<usize>
+    ensures { IfOk result (λ count. count ≤ length buffer.old) }
 {
     let mut count = 0;
+    // A read tells how many bytes came.
     while count < buffer.len() {
-        match reader.read(&mut buffer[count..]) {
-            Ok(0) => return Input::Came { count },
-            Ok(more) => count += more,
-            Err(error) => return Input::Failed { error },
+        let more = reader.read(&mut buffer[count..])?;
+        if more == 0 {
+            break;
         }
+        count += more;
     }
-    Input::Came { count }
+    Ok(count)
 }
 
 // Says on standard error what failed, and why.
@@ -47,22 +40,17 @@ fn print(rt: &(impl Print + Eprint), bytes: &[u8]) {
 // Writes the page of a table file to standard output. The buffer has the length that the page call asks for, so it refuses nothing.
 pub fn print_page(rt: &(impl Print + Eprint), file: &[u8]) {
     let mut out = [0u8; PAGE];
-    let answer = write_page(file, &mut out);
-    match answer {
-        PageWritten::Refused {
-            number: _,
-            place: _,
-        } => unreachable!(),
-        PageWritten::Written { length } => print(rt, &out[..length]),
-    }
+    let Ok(length) = write_page(file, &mut out) else {
+        unreachable!()
+    };
+    print(rt, &out[..length]);
 }
 
 // Prints the page of standard input, or says on standard error why it could not be read.
 pub fn run(rt: &(impl io::Input + Print + Eprint)) {
     let mut buffer = [0u8; 16384];
-    let input = read_input(&mut rt.reader(), &mut buffer);
-    match input {
-        Input::Failed { error } => complain(rt, "standard input", error),
-        Input::Came { count } => print_page(rt, &buffer[..count]),
+    match read_input(&mut rt.reader(), &mut buffer) {
+        Ok(count) => print_page(rt, &buffer[..count]),
+        Err(error) => complain(rt, "standard input", error),
     }
 }

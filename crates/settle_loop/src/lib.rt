@@ -2,13 +2,13 @@
 #![tactic(auto)]
 
 ghost use Rattle.std.specs.Prelude.{◌≡◌, length};
-ghost use Rattle.model.specs.Numbers.{at};
 ghost use Rattle.model.specs.Checks.{report_rounds};
 ghost use Rattle.theory_rounds.specs.Search.{Searched, Settleable, Settlement};
+ghost use Rattle.cells.specs.Sheets.{sheet_of};
 ghost use Rattle.settle_sums.specs.Sums.{Carried};
 
-use cells::{copy_cells, fill_zero};
-use model::Outcome;
+use cells::Matrix;
+use model::{Question, Refusal};
 use settle_round::turn;
 use settle_sums::{NARROW, SUMS};
 
@@ -16,69 +16,62 @@ use settle_sums::{NARROW, SUMS};
 // round the sums are 0, and the whole start counts as an increment. The count that it returns with the amounts is the least settling index, and is
 // at most the budget; without one it refuses with 9.
 fn run_turns(
-    n: usize,
-    d: &[u64],
+    d: &Matrix,
     start: &[u64],
     budget: u32,
     out: &mut [u64],
     increments: &mut [u64],
     sums: &mut [u64],
-) -> Outcome
-    requires { Settleable n d.now start.now × (out.old ≡ start.now) × (increments.old ≡ start.now) × Carried n d.now increments.old sums.old out.old }
-    ensures { Searched n (at n d.now) start.now budget (report_rounds result) out.new }
+) -> Result<u32, Refusal>
+    requires settleable { Settleable d.now.sectors d.now.cells.now start.now }
+    requires begun { (out.old ≡ start.now) × (increments.old ≡ start.now) }
+    requires carried { Carried d.now increments.old sums.old out.old }
+    ensures { Searched d.now.sectors (sheet_of d.now) start.now budget (report_rounds result) out.new }
 {
     let mut narrow = true;
-    let mut done: u32 = 0;
-    while done < budget {
-        let moved = turn(n, d, narrow, start, out, increments, sums);
-        let count = done + 1;
-        if moved == 0 {
-            return Outcome::Settled { rounds: count };
+    for done in 0..budget {
+        match turn(d, narrow, start, out, increments, sums) {
+            None => return Ok(done + 1),
+            Some(bound) => narrow = bound < NARROW,
         }
-        narrow = moved < NARROW;
-        done = count;
     }
-    Outcome::Refused {
-        number: 9,
-        place: 0,
-    }
+    Err(Question::Rounds.at(0))
 }
 
 // Rounds along the rows of d from the start, which `out` holds.
 fn run_rows(
-    n: usize,
-    d: &[u64],
+    d: &Matrix,
     start: &[u64],
     budget: u32,
     out: &mut [u64],
     work: &mut [u64],
-) -> Outcome
-    requires { Settleable n d.now start.now × (out.old ≡ start.now) × (length work.old ≡ n) }
-    ensures { Searched n (at n d.now) start.now budget (report_rounds result) out.new }
+) -> Result<u32, Refusal>
+    requires settleable { Settleable d.now.sectors d.now.cells.now start.now }
+    requires begun { (out.old ≡ start.now) × (length work.old ≡ d.now.sectors) }
+    ensures { Searched d.now.sectors (sheet_of d.now) start.now budget (report_rounds result) out.new }
 {
     let mut sums = [0u64; SUMS];
-    copy_cells(start, work);
-    run_turns(n, d, start, budget, out, work, &mut sums)
+    work.copy_from_slice(start);
+    run_turns(d, start, budget, out, work, &mut sums)
 }
 
 // The settled amounts of a start, or number 9 with the outputs at 0; the work cells are cleared.
 pub fn settle(
-    n: usize,
-    d: &[u64],
+    d: &Matrix,
     start: &[u64],
     budget: u32,
     out: &mut [u64],
     work: &mut [u64],
-) -> Outcome
-    requires { Settleable n d.now start.now × (length out.old ≡ n) × (length work.old ≡ n) }
-    ensures { Settlement n (at n d.now) start.now budget (report_rounds result) out.new work.new }
+) -> Result<u32, Refusal>
+    requires settleable { Settleable d.now.sectors d.now.cells.now start.now }
+    requires sizes { (length out.old ≡ d.now.sectors) × (length work.old ≡ d.now.sectors) }
+    ensures { Settlement d.now.sectors (sheet_of d.now) start.now budget (report_rounds result) out.new work.new }
 {
-    copy_cells(start, out);
-    let outcome = run_rows(n, d, start, budget, out, work);
-    fill_zero(work);
-    let Outcome::Settled { rounds: _ } = outcome else {
-        fill_zero(out);
-        return outcome;
-    };
+    out.copy_from_slice(start);
+    let outcome = run_rows(d, start, budget, out, work);
+    work.fill(0);
+    if outcome.is_err() {
+        out.fill(0);
+    }
     outcome
 }

@@ -13,10 +13,7 @@ fn nearest(a: u64, b: u64) -> u64
     ensures { result ≡ nearest a b }
 {
     let rest = a % b;
-    if rest < b - rest {
-        return a / b;
-    }
-    a / b + 1
+    if rest < b - rest { a / b } else { a / b + 1 }
 }
 
 // A part of a whole to the nearest millionth, halves upward; 0 where the whole is 0.
@@ -25,9 +22,10 @@ pub fn share_of(part: u64, whole: u64) -> u64
     ensures { result ≡ share part whole }
 {
     if whole == 0 {
-        return 0;
+        0
+    } else {
+        nearest(part * ONE, whole)
     }
-    nearest(part * ONE, whole)
 }
 
 // The part of an amount that a share in millionths takes, rounded down.

@@ -1,119 +1,64 @@
 // The questions of a table, in their order: the lengths and amounts of its slices, then what its balances ask.
 #![tactic(auto)]
 
-ghost use Rattle.std.specs.Prelude.{[], ◌∷◌, ◌++◌, ◌≡◌, ◌+◌, ◌*◌, length};
-ghost use Rattle.model.specs.Table.{table_by};
+ghost use Rattle.std.specs.Prelude.{[], ◌∷◌, ◌++◌, ◌≡◌, ◌*◌, length};
+ghost use Rattle.model.specs.Lent.{table_lent};
 ghost use Rattle.model.specs.Checks.{balance_checks, lengths, report, size, table_amounts, verdict};
 ghost use Rattle.theory.specs.Slices.{Columns, Each};
 ghost use Rattle.theory_tables.specs.Tables.{TableSizes};
+ghost use Rattle.table_balances.specs.Slices.{SlicesLent};
 
-use checks::{check_sizes, matrix_within, next_within};
-use model::{AMOUNT_LIMIT, Answer};
+use checks::{Part, check_sizes, matrix_within, parts_within};
+use model::{AMOUNT_LIMIT, Refusal, Table};
 use table_balances::{columns_balance, exports_within, imports_covered, rows_balance};
 
 // Question 3: is every amount of a table within its limit? Places are counted on through the slices.
-pub fn check_amounts(
-    n: usize,
-    x: &[u64],
-    final_demand: &[u64],
-    exports: &[u64],
-    imports: &[u64],
-    value_added: &[u64],
-    production: &[u64],
-    adjustment: &[u64],
-) -> Answer
-    requires { length x.now ≡ n * n }
-    ensures { report result ≡ verdict (table_amounts (table_by n x.now final_demand.now exports.now imports.now value_added.now production.now adjustment.now)) [] }
+pub fn check_amounts(table: &Table) -> Result<(), Refusal>
+    requires { length table.now.flows.now ≡ table.now.sectors * table.now.sectors }
+    ensures { report result ≡ verdict (table_amounts (table_lent table.now)) [] }
 {
-    let limit = AMOUNT_LIMIT;
-    let flows = matrix_within(n, x, limit);
-    let from_demand = x.len();
-    let demands = next_within(flows, from_demand, limit, final_demand);
-    let from_exports = from_demand + final_demand.len();
-    let abroad = next_within(demands, from_exports, limit, exports);
-    let from_imports = from_exports + exports.len();
-    let imported = next_within(abroad, from_imports, limit, imports);
-    let from_values = from_imports + imports.len();
-    let values = next_within(imported, from_values, limit, value_added);
-    let from_production = from_values + value_added.len();
-    let made = next_within(values, from_production, limit, production);
-    let from_adjustment = from_production + production.len();
-    next_within(made, from_adjustment, limit, adjustment)
+    matrix_within(table.sectors, table.flows, AMOUNT_LIMIT)?;
+    parts_within(
+        table.flows.len(),
+        &[
+            Part::amounts(table.final_demand),
+            Part::amounts(table.exports),
+            Part::amounts(table.imports),
+            Part::amounts(table.value_added),
+            Part::amounts(table.production),
+            Part::amounts(table.adjustment),
+        ],
+    )
+}
+
+// Questions 16 and 4 to 6, of a table whose slices have their lengths and amounts.
+fn check_balances(table: &Table) -> Result<(), Refusal>
+    requires { SlicesLent table.now }
+    ensures { report result ≡ verdict (balance_checks (table_lent table.now)) [] }
+{
+    exports_within(table.sectors, table.exports, table.adjustment)?;
+    columns_balance(table)?;
+    rows_balance(table)?;
+    imports_covered(table)
 }
 
 // Questions 3, 16 and 4 to 6, of a table whose slices have their lengths.
-pub fn check_contents(
-    n: usize,
-    x: &[u64],
-    final_demand: &[u64],
-    exports: &[u64],
-    imports: &[u64],
-    value_added: &[u64],
-    production: &[u64],
-    adjustment: &[u64],
-) -> Answer
-    requires { TableSizes (table_by n x.now final_demand.now exports.now imports.now value_added.now production.now adjustment.now) }
-    ensures { let t = table_by n x.now final_demand.now exports.now imports.now value_added.now production.now adjustment.now in
+pub fn check_contents(table: &Table) -> Result<(), Refusal>
+    requires { TableSizes (table_lent table.now) }
+    ensures { let t = table_lent table.now in
         report result ≡ verdict (table_amounts t ++ balance_checks t) [] }
 {
-    let amounts = check_amounts(
-        n,
-        x,
-        final_demand,
-        exports,
-        imports,
-        value_added,
-        production,
-        adjustment,
-    );
-    let Answer::Accepted = amounts else {
-        return amounts;
-    };
-    let abroad = exports_within(n, exports, adjustment);
-    let Answer::Accepted = abroad else {
-        return abroad;
-    };
-    let columns = columns_balance(n, x, value_added, production);
-    let Answer::Accepted = columns else {
-        return columns;
-    };
-    let rows = rows_balance(n, x, final_demand, exports, imports, production, adjustment);
-    let Answer::Accepted = rows else {
-        return rows;
-    };
-    imports_covered(n, x, final_demand, imports)
+    check_amounts(table)?;
+    check_balances(table)
 }
 
 // Questions 1 to 3, 16 and 4 to 6. The lengths of the table's own slices are among those of the matrices and of the lent slices.
-pub fn check_table(
-    n: usize,
-    x: &[u64],
-    final_demand: &[u64],
-    exports: &[u64],
-    imports: &[u64],
-    value_added: &[u64],
-    production: &[u64],
-    adjustment: &[u64],
-    matrices: &[usize],
-    lent: &[usize],
-) -> Answer
-    requires x_len { Each (n * n) matrices.now → length x.now ≡ n * n }
-    requires columns { Each n lent.now → Columns n (final_demand.now ∷ exports.now ∷ imports.now ∷ value_added.now ∷ production.now ∷ adjustment.now ∷ []) }
-    ensures { let t = table_by n x.now final_demand.now exports.now imports.now value_added.now production.now adjustment.now in
-        report result ≡ verdict (size n ∷ lengths n matrices.now lent.now ∷ table_amounts t ++ balance_checks t) [] }
+pub fn check_table(table: &Table, matrices: &[usize], lent: &[usize]) -> Result<(), Refusal>
+    requires flows { Each (table.now.sectors * table.now.sectors) matrices.now → length table.now.flows.now ≡ table.now.sectors * table.now.sectors }
+    requires columns { Each table.now.sectors lent.now → Columns table.now.sectors (table_lent table.now).columns }
+    ensures { let t = table_lent table.now in
+        report result ≡ verdict (size t.sectors ∷ lengths t.sectors matrices.now lent.now ∷ table_amounts t ++ balance_checks t) [] }
 {
-    let sizes = check_sizes(n, matrices, lent);
-    let Answer::Accepted = sizes else {
-        return sizes;
-    };
-    check_contents(
-        n,
-        x,
-        final_demand,
-        exports,
-        imports,
-        value_added,
-        production,
-        adjustment,
-    )
+    check_sizes(table.sectors, matrices, lent)?;
+    check_contents(table)
 }

@@ -18,13 +18,13 @@ pub fn fill_demand(
     adjustment: &[u64],
     f: &mut [u64],
 )
-    requires m_len { (length m.now ≡ n) × (length final_demand.now ≡ n) × (length exports.now ≡ n) × (length adjustment.now ≡ n) × (length f.old ≡ n) }
-    requires by_index { (k : ℕ) → k < n → cell m.now k ≤ one }
-    requires by_index_2 { (k : ℕ) → (cell final_demand.now k ≤ amount_limit) × (cell exports.now k ≤ amount_limit) × (cell adjustment.now k ≤ amount_limit) }
+    requires sizes { (length m.now ≡ n) × (length final_demand.now ≡ n) × (length exports.now ≡ n) × (length adjustment.now ≡ n) × (length f.old ≡ n) }
+    requires shares { (k : ℕ) → k < n → cell m.now k ≤ one }
+    requires amounts { (k : ℕ) → (cell final_demand.now k ≤ amount_limit) × (cell exports.now k ≤ amount_limit) × (cell adjustment.now k ≤ amount_limit) }
     ensures { f.new ≡ domestic_demand n m.now final_demand.now exports.now adjustment.now }
 {
-    for i in 0..n {
+    for (i, demand) in f.iter_mut().enumerate() {
         let domestic = portion_of(ONE - m[i], final_demand[i]);
-        f[i] = domestic + (exports[i] + adjustment[i]);
+        *demand = domestic + (exports[i] + adjustment[i]);
     }
 }

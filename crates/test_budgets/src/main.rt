@@ -1,12 +1,14 @@
 // Runs the calls that settle on slow sheets, with the rounds that always suffice, with just enough and with one fewer, and prints each answer.
 #![tactic(auto)]
 
+ghost use Rattle.std.specs.Prelude.{◌<◌};
+
 use impact::impact;
 use inverse::inverse;
-use model::{PRICE_BUDGET, PRODUCTION_BUDGET};
+use model::{PRICE_BUDGET, PRODUCTION_BUDGET, Refusal};
 use production::{price, production};
 use std::io;
-use test_show::{show_end, show_outcome, show_word};
+use test_show::show_outcome;
 
 // A ring of forty: each sector buys from the next alone, up to the limit of question 7.
 fn ring() -> [u64; 1600] {
@@ -19,91 +21,76 @@ fn ring() -> [u64; 1600] {
 }
 
 // Amounts near a limit, of which one is a unit more.
-fn uneven(amount: u64) -> [u64; 40] {
+fn uneven(amount: u64) -> [u64; 40]
+    requires { amount < 2000000000 }
+{
     let mut start = [amount; 40];
-    if amount < 4294967295 {
-        start[0] = amount + 1;
-    }
+    start[0] = amount + 1;
     start
 }
 
-fn produce(rt: &impl Print, name: &[u8], budget: u32) -> io::Result<()> {
-    let mut out = [7u64; 40];
-    let mut work = [7u64; 40];
-    show_word(rt, name)?;
-    show_outcome(
-        rt,
-        production(
-            40,
-            &ring(),
-            &uneven(1999999980),
-            budget,
-            &mut out,
-            &mut work,
-        ),
-    )?;
-    show_end(rt)
+fn produce(budget: u32) -> Result<u32, Refusal> {
+    production(
+        40,
+        &ring(),
+        &uneven(1999999980),
+        budget,
+        &mut [7; 40],
+        &mut [7; 40],
+    )
 }
 
-fn rise(rt: &impl Print, name: &[u8], budget: u32) -> io::Result<()> {
-    let mut out = [7u64; 40];
-    let mut work = [7u64; 40];
-    show_word(rt, name)?;
-    show_outcome(
-        rt,
-        price(40, &ring(), &uneven(999999980), budget, &mut out, &mut work),
-    )?;
-    show_end(rt)
+fn rise(budget: u32) -> Result<u32, Refusal> {
+    price(
+        40,
+        &ring(),
+        &uneven(999999980),
+        budget,
+        &mut [7; 40],
+        &mut [7; 40],
+    )
 }
 
-fn compare(rt: &impl Print, name: &[u8], budget: u32) -> io::Result<()> {
-    let mut out = [7u64; 40];
-    let mut work = [7u64; 40];
-    show_word(rt, name)?;
-    show_outcome(
-        rt,
-        impact(
-            40,
-            &ring(),
-            &[0; 40],
-            &uneven(1999999980),
-            budget,
-            &mut out,
-            &mut work,
-        ),
-    )?;
-    show_end(rt)
+fn compare(budget: u32) -> Result<u32, Refusal> {
+    let after = uneven(1999999980);
+    impact(
+        40,
+        &ring(),
+        &[0; 40],
+        &after,
+        budget,
+        &mut [7; 40],
+        &mut [7; 40],
+    )
 }
 
-fn invert(rt: &impl Print, name: &[u8], budget: u32) -> io::Result<()> {
-    let mut sheet = [7u64; 1600];
-    let mut power = [7u64; 40];
-    let mut sensitivity = [7u64; 40];
-    show_word(rt, name)?;
-    show_outcome(
-        rt,
-        inverse(
-            40,
-            &ring(),
-            budget,
-            &mut sheet,
-            &mut power,
-            &mut sensitivity,
-        ),
-    )?;
-    show_end(rt)
+fn invert(budget: u32) -> Result<u32, Refusal> {
+    inverse(
+        40,
+        &ring(),
+        budget,
+        &mut [7; 1600],
+        &mut [7; 40],
+        &mut [7; 40],
+    )
+}
+
+fn show(rt: &impl Print, name: &str, outcome: Result<u32, Refusal>) -> io::Result<()> {
+    rt.print(name)?;
+    show_outcome(rt, outcome)?;
+    println!(rt)
 }
 
 fn main(rt: HostRuntime) -> io::Result<()> {
-    produce(&rt, b"production", PRODUCTION_BUDGET)?;
-    produce(&rt, b"production least budget", 1189)?;
-    produce(&rt, b"production one round short", 1188)?;
-    rise(&rt, b"price", PRICE_BUDGET)?;
-    rise(&rt, b"price least budget", 1175)?;
-    rise(&rt, b"price one round short", 1174)?;
-    compare(&rt, b"scheme", PRODUCTION_BUDGET)?;
-    compare(&rt, b"scheme one round short", 1188)?;
-    invert(&rt, b"inverse", PRICE_BUDGET)?;
-    invert(&rt, b"inverse least budget", 256)?;
-    invert(&rt, b"inverse one round short", 255)
+    show(&rt, "production", produce(PRODUCTION_BUDGET))?;
+    show(&rt, "production least budget", produce(1189))?;
+    show(&rt, "production one round short", produce(1188))?;
+    show(&rt, "price", rise(PRICE_BUDGET))?;
+    show(&rt, "price least budget", rise(1175))?;
+    show(&rt, "price one round short", rise(1174))?;
+    show(&rt, "scheme", compare(PRODUCTION_BUDGET))?;
+    show(&rt, "scheme one round short", compare(1188))?;
+    show(&rt, "inverse", invert(PRICE_BUDGET))?;
+    show(&rt, "inverse least budget", invert(256))?;
+    show(&rt, "inverse one round short", invert(255))
 }

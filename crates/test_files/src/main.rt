@@ -6,179 +6,140 @@
 use file_reader::read_table;
 use file_writer::write_table;
 use marks::{count_marks, ones};
-use model::{FILE, SECTORS, SHEET, WORDS};
+use model::{FILE, SECTORS, SHEET, Table, WORDS};
 use std::io;
-use test_show::{show_bytes, show_cells, show_end, show_more, show_read, show_word, show_written};
+use test_show::{WORKED, ZERO, show_bytes, show_cells, show_read, show_written};
 
-// Cuts the columns, one after the other, two amounts each; the rises are as many as are left.
-fn cut(rt: &impl Print, n: usize, x: &[u64], columns: &[u64], file: &mut [u8]) -> io::Result<()> {
-    if columns.len() < 12 {
-        return Ok(());
-    }
-    let length = show_written(
-        rt,
-        write_table(
-            n,
-            x,
-            &columns[0..2],
-            &columns[2..4],
-            &columns[4..6],
-            &columns[6..8],
-            &columns[8..10],
-            &columns[10..12],
-            &columns[12..],
-            file,
-        ),
-    )?;
-    show_bytes(rt, file, length)
+// Forty sectors whose every amount is 1.
+const FULL: Table = Table {
+    sectors: SECTORS,
+    flows: &[1; SHEET],
+    final_demand: &[1; SECTORS],
+    exports: &[1; SECTORS],
+    imports: &[1; SECTORS],
+    value_added: &[1; SECTORS],
+    production: &[1; SECTORS],
+    adjustment: &[1; SECTORS],
+};
+
+// A table and its rises, written on these bytes.
+fn write_on(
+    rt: &impl Print,
+    name: &str,
+    table: &Table,
+    rises: &[u64],
+    file: &mut [u8],
+) -> io::Result<()> {
+    let answer = write_table(table, rises, file);
+    rt.print(name)?;
+    show_written(rt, answer)?;
+    show_bytes(rt, file, answer.unwrap_or(0))
 }
 
-// A table of two sectors: the flows row by row, and final demand, exports, imports, value added, production, the adjustment item and the rises.
-fn table(
-    rt: &impl Print,
-    name: &[u8],
-    n: usize,
-    x: [u64; 4],
-    columns: [u64; 14],
-) -> io::Result<()> {
-    let mut file = [7u8; FILE];
-    show_word(rt, name)?;
-    cut(rt, n, &x, &columns, &mut file)
+fn write(rt: &impl Print, name: &str, table: &Table, rises: [u64; 2]) -> io::Result<()> {
+    write_on(rt, name, table, &rises, &mut [7; FILE])
 }
 
-// The worked table with another flow, this adjustment item of sector 1 and these rises.
-fn worked(
-    rt: &impl Print,
-    name: &[u8],
-    n: usize,
-    flow: u64,
-    item: u64,
-    rise: u64,
-    second: u64,
-) -> io::Result<()> {
-    table(
-        rt,
-        name,
-        n,
-        [100, 400, flow, 600],
-        [
-            500, 900, 250, 560, 250, 360, 600, 1000, 1000, 2000, item, 0, rise, second,
-        ],
-    )
+// The worked table with another flow.
+fn with_flow(rt: &impl Print, name: &str, flow: u64, rises: [u64; 2]) -> io::Result<()> {
+    let table = Table {
+        flows: &[100, 400, flow, 600],
+        ..WORKED
+    };
+    write(rt, name, &table, rises)
+}
+
+// The worked table with an adjustment item of sector 1.
+fn with_item(rt: &impl Print, name: &str, item: u64, rises: [u64; 2]) -> io::Result<()> {
+    let table = Table {
+        adjustment: &[item, 0],
+        ..WORKED
+    };
+    write(rt, name, &table, rises)
 }
 
 fn written(rt: &impl Print) -> io::Result<()> {
-    worked(rt, b"worked table", 2, 300, 0, 0, 0)?;
-    worked(rt, b"zero left out", 2, 0, 0, 0, 0)?;
-    worked(rt, b"rise at the limit", 2, 300, 0, 0, 1000000000)?;
-    worked(rt, b"item after the rise", 2, 300, 50, 0, 7)?;
-    worked(rt, b"item at the limit", 2, 300, 1000000000, 0, 0)?;
-    table(rt, b"all zero", 2, [0; 4], [0; 14])
+    write(rt, "worked table", &WORKED, [0, 0])?;
+    with_flow(rt, "zero left out", 0, [0, 0])?;
+    write(rt, "rise at the limit", &WORKED, [0, 1000000000])?;
+    with_item(rt, "item after the rise", 50, [0, 7])?;
+    with_item(rt, "item at the limit", 1000000000, [0, 0])?;
+    write(rt, "all zero", &ZERO, [0, 0])
 }
 
 fn refused(rt: &impl Print) -> io::Result<()> {
-    worked(rt, b"flow over", 2, 1000000001, 0, 1000000001, 0)?;
-    worked(rt, b"item over", 2, 300, 1000000001, 1000000001, 0)?;
-    worked(rt, b"rise over", 2, 300, 0, 1000000001, 0)?;
-    worked(rt, b"second rise over", 2, 300, 0, 0, 18446744073709551615)?;
-    worked(rt, b"no sectors", 0, 300, 0, 0, 0)?;
-    worked(rt, b"another n", 3, 300, 0, 0, 0)
+    let none = Table {
+        sectors: 0,
+        ..WORKED
+    };
+    let three = Table {
+        sectors: 3,
+        ..WORKED
+    };
+    with_flow(rt, "flow over", 1000000001, [1000000001, 0])?;
+    with_item(rt, "item over", 1000000001, [1000000001, 0])?;
+    write(rt, "rise over", &WORKED, [1000000001, 0])?;
+    write(rt, "second rise over", &WORKED, [0, 18446744073709551615])?;
+    write(rt, "no sectors", &none, [0, 0])?;
+    write(rt, "another n", &three, [0, 0])
 }
 
-fn rises_short(rt: &impl Print) -> io::Result<()> {
-    let mut file = [7u8; FILE];
-    show_word(rt, b"rises short")?;
-    cut(rt, 2, &[0; 4], &[0; 13], &mut file)
-}
-
-fn byte_short(rt: &impl Print) -> io::Result<()> {
-    let mut file = [7u8; FILE - 1];
-    show_word(rt, b"a byte short")?;
-    cut(rt, 2, &[0; 4], &[0; 14], &mut file)
-}
-
-fn byte_more(rt: &impl Print) -> io::Result<()> {
-    let mut file = [7u8; FILE + 1];
-    show_word(rt, b"a byte more")?;
-    cut(rt, 2, &[0; 4], &[0; 14], &mut file)
+fn other_lengths(rt: &impl Print) -> io::Result<()> {
+    write_on(rt, "rises short", &ZERO, &[0], &mut [7; FILE])?;
+    write_on(rt, "a byte short", &ZERO, &[0, 0], &mut [7; FILE - 1])?;
+    write_on(rt, "a byte more", &ZERO, &[0, 0], &mut [7; FILE + 1])
 }
 
 // Every mark is set before the call.
-fn read(rt: &impl Print, name: &[u8], file: &[u8]) -> io::Result<()> {
+fn read(rt: &impl Print, name: &str, file: &[u8]) -> io::Result<()> {
     let mut marks = [18446744073709551615u64; WORDS];
-    show_word(rt, name)?;
-    show_read(
-        rt,
-        read_table(
-            file,
-            &mut [7u64; SHEET],
-            &mut [7u64; SECTORS],
-            &mut [7u64; SECTORS],
-            &mut [7u64; SECTORS],
-            &mut [7u64; SECTORS],
-            &mut [7u64; SECTORS],
-            &mut [7u64; SECTORS],
-            &mut [7u64; SECTORS],
-            &mut marks,
-        ),
-    )?;
-    show_more(rt, &[count_marks(&marks) as u64])?;
-    show_end(rt)
+    let answer = read_table(
+        file,
+        &mut [7; SHEET],
+        &mut [7; SECTORS],
+        &mut [7; SECTORS],
+        &mut [7; SECTORS],
+        &mut [7; SECTORS],
+        &mut [7; SECTORS],
+        &mut [7; SECTORS],
+        &mut [7; SECTORS],
+        &mut marks,
+    );
+    rt.print(name)?;
+    show_read(rt, answer)?;
+    println!(rt; " | {}", count_marks(&marks))
 }
 
 // All cells of 40 sectors: 40 ones in each of the words.
 fn read_full(rt: &impl Print) -> io::Result<()> {
     let mut file = [0u8; FILE];
-    let column = [1u64; SECTORS];
-    write_table(
-        SECTORS,
-        &[1u64; SHEET],
-        &column,
-        &column,
-        &column,
-        &column,
-        &column,
-        &column,
-        &column,
-        &mut file,
-    );
-    read(rt, b"every cell named", &file)
+    let _ = write_table(&FULL, &[1; SECTORS], &mut file);
+    read(rt, "every cell named", &file)
 }
 
 fn named(rt: &impl Print) -> io::Result<()> {
-    read(rt, b"no cell named", &[1, 2, 8])?;
-    read(rt, b"a zero named", &[1, 2, 3, 1, 0, 0, 0, 0, 8])?;
-    read(rt, b"an item named", &[1, 2, 10, 2, 0, 0, 0, 5, 8])?;
-    read(rt, b"no such kind", &[1, 2, 11, 2, 0, 0, 0, 5, 8])?;
-    read(
-        rt,
-        b"a cell named twice",
-        &[1, 2, 3, 1, 0, 0, 0, 0, 3, 1, 0, 0, 0, 0, 8],
-    )?;
+    let twice = &[1, 2, 3, 1, 0, 0, 0, 0, 3, 1, 0, 0, 0, 0, 8];
+    read(rt, "no cell named", &[1, 2, 8])?;
+    read(rt, "a zero named", &[1, 2, 3, 1, 0, 0, 0, 0, 8])?;
+    read(rt, "an item named", &[1, 2, 10, 2, 0, 0, 0, 5, 8])?;
+    read(rt, "no such kind", &[1, 2, 11, 2, 0, 0, 0, 5, 8])?;
+    read(rt, "a cell named twice", twice)?;
     read_full(rt)
 }
 
 // No position, the lowest, the highest, both, every second and all.
 fn words(rt: &impl Print) -> io::Result<()> {
-    show_word(rt, b"ones")?;
-    show_cells(
-        rt,
-        &[
-            ones(0) as u64,
-            ones(1) as u64,
-            ones(9223372036854775808) as u64,
-            ones(9223372036854775809) as u64,
-            ones(6148914691236517205) as u64,
-            ones(18446744073709551615) as u64,
-        ],
-    )?;
-    show_end(rt)
-}
-
-fn other_lengths(rt: &impl Print) -> io::Result<()> {
-    rises_short(rt)?;
-    byte_short(rt)?;
-    byte_more(rt)
+    let words = [
+        0,
+        1,
+        9223372036854775808,
+        9223372036854775809,
+        6148914691236517205,
+        18446744073709551615,
+    ];
+    rt.print("ones")?;
+    show_cells(rt, &words.map(ones))?;
+    println!(rt)
 }
 
 fn main(rt: HostRuntime) -> io::Result<()> {

@@ -6,112 +6,119 @@ use impact::impact;
 use model::PRODUCTION_BUDGET;
 use production::production;
 use std::io;
-use test_show::{show_outcome, show_slices, show_word};
+use test_show::{show_outcome, show_slices};
 
 // The worked matrix, and one on which a lower demand takes more rounds.
 const D: [u64; 4] = [75000, 150000, 240000, 240000];
 
 const UNEVEN: [u64; 4] = [259750, 398963, 235662, 247592];
 
-// What a scheme adds, on two output cells and two work cells.
-fn compare_lent(
+// What a scheme adds, on these output cells and work cells.
+fn compare_on(
     rt: &impl Print,
-    name: &[u8],
+    name: &str,
     n: usize,
     d: &[u64],
     before: &[u64],
     after: &[u64],
     budget: u32,
+    out: &mut [u64],
+    work: &mut [u64],
 ) -> io::Result<()> {
-    let mut out = [7u64; 2];
-    let mut work = [7u64; 2];
-    show_word(rt, name)?;
-    show_outcome(rt, impact(n, d, before, after, budget, &mut out, &mut work))?;
-    show_slices(rt, &out, &work)
+    rt.print(name)?;
+    show_outcome(rt, impact(n, d, before, after, budget, out, work))?;
+    show_slices(rt, &[out, work])
+}
+
+// The same on two output cells and two work cells.
+fn compare_lent(
+    rt: &impl Print,
+    name: &str,
+    n: usize,
+    before: &[u64],
+    after: &[u64],
+) -> io::Result<()> {
+    compare_on(rt, name, n, &D, before, after, 9, &mut [7; 2], &mut [7; 2])
 }
 
 // The same of two sectors.
 fn compare(
     rt: &impl Print,
-    name: &[u8],
+    name: &str,
     d: [u64; 4],
     before: [u64; 2],
     after: [u64; 2],
     budget: u32,
 ) -> io::Result<()> {
-    compare_lent(rt, name, 2, &d, &before, &after, budget)
+    compare_on(
+        rt,
+        name,
+        2,
+        &d,
+        &before,
+        &after,
+        budget,
+        &mut [7; 2],
+        &mut [7; 2],
+    )
 }
 
 // Production of two sectors, to compare with.
-fn produce(rt: &impl Print, name: &[u8], d: [u64; 4], f: [u64; 2]) -> io::Result<()> {
+fn produce(rt: &impl Print, name: &str, d: [u64; 4], f: [u64; 2]) -> io::Result<()> {
     let mut out = [7u64; 2];
     let mut work = [7u64; 2];
-    show_word(rt, name)?;
-    show_outcome(
-        rt,
-        production(2, &d, &f, PRODUCTION_BUDGET, &mut out, &mut work),
-    )?;
-    show_slices(rt, &out, &work)
+    let outcome = production(2, &d, &f, PRODUCTION_BUDGET, &mut out, &mut work);
+    rt.print(name)?;
+    show_outcome(rt, outcome)?;
+    show_slices(rt, &[&out, &work])
 }
 
 // What a scheme adds to forty sectors that all buy alike.
-fn compare_forty(rt: &impl Print, name: &[u8], d: u64, before: u64, after: u64) -> io::Result<()> {
-    let mut out = [7u64; 40];
-    let mut work = [7u64; 40];
-    show_word(rt, name)?;
-    show_outcome(
+fn compare_forty(rt: &impl Print, name: &str, d: u64, before: u64, after: u64) -> io::Result<()> {
+    compare_on(
         rt,
-        impact(
-            40,
-            &[d; 1600],
-            &[before; 40],
-            &[after; 40],
-            PRODUCTION_BUDGET,
-            &mut out,
-            &mut work,
-        ),
-    )?;
-    show_slices(rt, &out, &work)
+        name,
+        40,
+        &[d; 1600],
+        &[before; 40],
+        &[after; 40],
+        PRODUCTION_BUDGET,
+        &mut [7; 40],
+        &mut [7; 40],
+    )
 }
 
 fn schemes(rt: &impl Print) -> io::Result<()> {
-    compare(
-        rt,
-        b"scheme",
-        D,
-        [625, 1280],
-        [635, 1280],
-        PRODUCTION_BUDGET,
-    )?;
-    compare(rt, b"scheme least budget", D, [625, 1280], [635, 1280], 10)?;
-    compare(rt, b"second not settled", D, [625, 1280], [635, 1280], 9)?;
-    compare(rt, b"neither settled", D, [625, 1280], [635, 1280], 8)?;
-    compare(rt, b"no change", D, [625, 1280], [625, 1280], 9)?;
-    compare(rt, b"nothing, budget 0", D, [0, 0], [0, 0], 0)?;
-    compare_forty(rt, b"largest scheme", 23750, 0, 2000000000)
+    compare(rt, "scheme", D, [625, 1280], [635, 1280], PRODUCTION_BUDGET)?;
+    compare(rt, "scheme least budget", D, [625, 1280], [635, 1280], 10)?;
+    compare(rt, "second not settled", D, [625, 1280], [635, 1280], 9)?;
+    compare(rt, "neither settled", D, [625, 1280], [635, 1280], 8)?;
+    compare(rt, "no change", D, [625, 1280], [625, 1280], 9)?;
+    compare(rt, "nothing, budget 0", D, [0, 0], [0, 0], 0)?;
+    compare_forty(rt, "largest scheme", 23750, 0, 2000000000)
 }
 
 fn uneven_schemes(rt: &impl Print) -> io::Result<()> {
-    produce(rt, b"lower demand", UNEVEN, [41, 24])?;
-    produce(rt, b"higher demand", UNEVEN, [42, 24])?;
+    produce(rt, "lower demand", UNEVEN, [41, 24])?;
+    produce(rt, "higher demand", UNEVEN, [42, 24])?;
     compare(
         rt,
-        b"lower takes longer",
+        "lower takes longer",
         UNEVEN,
         [41, 24],
         [42, 24],
         PRODUCTION_BUDGET,
     )?;
-    compare(rt, b"first not settled", UNEVEN, [41, 24], [42, 24], 8)
+    compare(rt, "first not settled", UNEVEN, [41, 24], [42, 24], 8)
 }
 
 fn refusals(rt: &impl Print) -> io::Result<()> {
-    compare(rt, b"second below", D, [625, 1280], [626, 1279], 0)?;
-    compare(rt, b"first over", D, [0, 2000000001], [2000000001, 0], 9)?;
-    compare(rt, b"second over", D, [625, 1280], [624, 2000000001], 9)?;
+    compare(rt, "second below", D, [625, 1280], [626, 1279], 0)?;
+    compare(rt, "first over", D, [0, 2000000001], [2000000001, 0], 9)?;
+    compare(rt, "second over", D, [625, 1280], [624, 2000000001], 9)?;
     compare(
         rt,
-        b"7 before 17",
+        "7 before 17",
         [950001, 0, 0, 0],
         [1, 0],
         [0, 2000000001],
@@ -120,17 +127,9 @@ fn refusals(rt: &impl Print) -> io::Result<()> {
 }
 
 fn shapes(rt: &impl Print) -> io::Result<()> {
-    compare_lent(rt, b"first long", 2, &D, &[625, 1280, 0], &[635, 1280], 9)?;
-    compare_lent(rt, b"second short", 2, &D, &[625, 1280], &[635], 9)?;
-    compare_lent(
-        rt,
-        b"scheme of forty-one",
-        41,
-        &D,
-        &[625, 1280],
-        &[635, 1280],
-        9,
-    )
+    compare_lent(rt, "first long", 2, &[625, 1280, 0], &[635, 1280])?;
+    compare_lent(rt, "second short", 2, &[625, 1280], &[635])?;
+    compare_lent(rt, "scheme of forty-one", 41, &[625, 1280], &[635, 1280])
 }
 
 fn main(rt: HostRuntime) -> io::Result<()> {

@@ -4,78 +4,73 @@
 
 use implied::implied_demand;
 use std::io;
-use test_show::{show_answer, show_end, show_first_signed, show_word};
+use test_show::{show_answer, show_slices};
 
 // The worked matrix.
 const D: [u64; 4] = [75000, 150000, 240000, 240000];
 
-fn imply_in(rt: &impl Print, n: usize, d: &[u64], y: &[u64], out: &mut [i64]) -> io::Result<()> {
+// The demand behind a production on these output cells.
+fn imply_on(
+    rt: &impl Print,
+    name: &str,
+    n: usize,
+    d: &[u64],
+    y: &[u64],
+    out: &mut [i64],
+) -> io::Result<()> {
+    rt.print(name)?;
     show_answer(rt, implied_demand(n, d, y, out))?;
-    show_first_signed(rt, out)?;
-    show_end(rt)
-}
-
-// The demand behind a production on so many output cells, at most forty.
-fn imply_on(rt: &impl Print, outs: usize, n: usize, d: &[u64], y: &[u64]) -> io::Result<()> {
-    if 40 < outs {
-        return Ok(());
-    }
-    let mut out = [7i64; 40];
-    imply_in(rt, n, d, y, &mut out[0..outs])
+    show_slices(rt, &[out])
 }
 
 // The demand behind a production of two sectors.
-fn imply(rt: &impl Print, name: &[u8], d: [u64; 4], first: u64, second: u64) -> io::Result<()> {
-    show_word(rt, name)?;
-    imply_on(rt, 2, 2, &d, &[first, second])
-}
-
-// The same on another number of output cells.
-fn imply_lent(rt: &impl Print, name: &[u8], outs: usize) -> io::Result<()> {
-    show_word(rt, name)?;
-    imply_on(rt, outs, 2, &D, &[999, 1999])
+fn imply(rt: &impl Print, name: &str, d: [u64; 4], y: [u64; 2]) -> io::Result<()> {
+    imply_on(rt, name, 2, &d, &y, &mut [7; 2])
 }
 
 // Forty sectors that all buy alike; the first makes this much, each of the others that.
-fn imply_forty(rt: &impl Print, name: &[u8], d: u64, first: u64, others: u64) -> io::Result<()> {
-    show_word(rt, name)?;
+fn imply_forty(rt: &impl Print, name: &str, d: u64, first: u64, others: u64) -> io::Result<()> {
     let mut y = [others; 40];
     y[0] = first;
-    imply_on(rt, 40, 40, &[d; 1600], &y)
+    imply_on(rt, name, 40, &[d; 1600], &y, &mut [7; 40])
 }
 
 fn shortages(rt: &impl Print) -> io::Result<()> {
-    imply(rt, b"short, rounded down before", D, 0, 1001)?;
-    imply(rt, b"nothing left", D, 162, 1000)?;
-    imply(rt, b"one unit short", D, 161, 1000)?;
-    imply_forty(rt, b"one of forty short", 23750, 0, 1000)?;
-    imply_forty(rt, b"all but one short", 23750, 1000000, 0)
+    imply(rt, "short, rounded down before", D, [0, 1001])?;
+    imply(rt, "nothing left", D, [162, 1000])?;
+    imply(rt, "one unit short", D, [161, 1000])?;
+    imply_forty(rt, "one of forty short", 23750, 0, 1000)?;
+    imply_forty(rt, "all but one short", 23750, 1000000, 0)
 }
 
 fn largest_shortages(rt: &impl Print) -> io::Result<()> {
-    imply(rt, b"all in the sector taken least", D, 1600000000000, 0)?;
-    imply(rt, b"all in the sector taken most", D, 0, 1600000000000)?;
-    imply(rt, b"largest shortage", [0, 950000, 0, 0], 0, 1600000000000)
+    imply(rt, "all in the sector taken least", D, [1600000000000, 0])?;
+    imply(rt, "all in the sector taken most", D, [0, 1600000000000])?;
+    imply(
+        rt,
+        "largest shortage",
+        [0, 950000, 0, 0],
+        [0, 1600000000000],
+    )
 }
 
 fn outputs_lent(rt: &impl Print) -> io::Result<()> {
-    imply_lent(rt, b"outputs short", 1)?;
-    imply_lent(rt, b"outputs long", 3)?;
-    imply_lent(rt, b"outputs none", 0)
+    imply_on(rt, "outputs short", 2, &D, &[999, 1999], &mut [7; 1])?;
+    imply_on(rt, "outputs long", 2, &D, &[999, 1999], &mut [7; 3])?;
+    imply_on(rt, "outputs none", 2, &D, &[999, 1999], &mut [])
 }
 
 fn totals(rt: &impl Print) -> io::Result<()> {
-    imply(rt, b"total at the limit", [0; 4], 1599999999999, 1)?;
-    imply(rt, b"total over", [0; 4], 1600000000000, 1)?;
-    imply(rt, b"total over, first sector short", D, 0, 1600000000001)?;
+    imply(rt, "total at the limit", [0; 4], [1599999999999, 1])?;
+    imply(rt, "total over", [0; 4], [1600000000000, 1])?;
+    imply(rt, "total over, first sector short", D, [0, 1600000000001])?;
     imply(
         rt,
-        b"column over, first sector short",
+        "column over, first sector short",
         [0, 950001, 0, 0],
-        0,
-        1600000000001,
+        [0, 1600000000001],
     )?;
-    imply(rt, b"total that would wrap", D, 18446744073709551615, 1)
+    imply(rt, "total that would wrap", D, [18446744073709551615, 1])
 }
 
 fn main(rt: HostRuntime) -> io::Result<()> {

@@ -6,36 +6,41 @@ use coefficients::coefficients;
 use implied::implied_demand;
 use induced::induced;
 use inverse::inverse;
-use model::{PRICE_BUDGET, PRODUCTION_BUDGET};
+use model::{PRICE_BUDGET, PRODUCTION_BUDGET, Table};
 use production::production;
 use shares::{portion_of, share_of};
 use std::io;
-use test_show::{
-    show_answer, show_end, show_first, show_first_signed, show_outcome, show_slices, show_three,
-    show_word,
-};
+use test_show::{show_answer, show_outcome, show_slices};
 
-fn show_line(rt: &impl Print, name: &[u8], cells: &[u64]) -> io::Result<()> {
-    show_word(rt, name)?;
-    show_first(rt, cells)?;
-    show_end(rt)
+// The sheets of three sectors but f.
+#[derive(Clone, Copy)]
+struct Sheets {
+    a: [u64; 9],
+    v: [u64; 3],
+    m: [u64; 3],
+    d: [u64; 9],
 }
 
-fn show_triple(rt: &impl Print, name: &[u8], cells: [u64; 3]) -> io::Result<()> {
-    show_line(rt, name, &cells)
+// What three sectors are asked for.
+struct Demands {
+    consumption: [u64; 3],
+    investment: [u64; 3],
+    exports: [u64; 3],
 }
 
-fn show_shares(rt: &impl Print, m: [u64; 3], v: [u64; 3]) -> io::Result<()> {
-    show_triple(rt, b"import shares", m)?;
-    show_triple(rt, b"value shares", v)
+fn show_line(rt: &impl Print, name: &str, cells: &[u64]) -> io::Result<()> {
+    rt.print(name)?;
+    show_slices(rt, &[cells])
+}
+
+fn show_shares(rt: &impl Print, sheets: &Sheets) -> io::Result<()> {
+    show_line(rt, "import shares", &sheets.m)?;
+    show_line(rt, "value shares", &sheets.v)
 }
 
 // What an import share leaves of an amount or of an input coefficient; 0 where the share is over one or the amount over its limit.
 fn domestic(m: u64, amount: u64) -> u64 {
-    if 1_000_000 < m {
-        return 0;
-    }
-    if 1_000_000_000 < amount {
+    if m > 1_000_000 || amount > 1_000_000_000 {
         return 0;
     }
     portion_of(1_000_000 - m, amount)
@@ -44,153 +49,108 @@ fn domestic(m: u64, amount: u64) -> u64 {
 // The import shares' part of the input coefficients taken away, cell by cell.
 fn domestic_sheet(m: [u64; 3], a: [u64; 9]) -> [u64; 9] {
     let mut d = [0u64; 9];
-    for i in 0..9 {
-        d[i] = domestic(m[i / 3], a[i]);
+    for (i, coefficient) in d.iter_mut().enumerate() {
+        *coefficient = domestic(m[i / 3], a[i]);
     }
     d
 }
 
-fn domestic_demand(m: [u64; 3], fin: [u64; 3]) -> [u64; 3] {
+fn domestic_demand(m: [u64; 3], final_demand: [u64; 3]) -> [u64; 3] {
     [
-        domestic(m[0], fin[0]),
-        domestic(m[1], fin[1]),
-        domestic(m[2], fin[2]),
+        domestic(m[0], final_demand[0]),
+        domestic(m[1], final_demand[1]),
+        domestic(m[2], final_demand[2]),
     ]
 }
 
 // The inverse, and after bars its influence and sensitivity ratios.
-fn invert(rt: &impl Print, d: [u64; 9]) -> io::Result<()> {
+fn invert(rt: &impl Print, sheets: &Sheets) -> io::Result<()> {
     let mut sheet = [7u64; 9];
     let mut power = [7u64; 3];
     let mut sensitivity = [7u64; 3];
-    show_word(rt, b"inverse")?;
-    show_outcome(
-        rt,
-        inverse(
-            3,
-            &d,
-            PRICE_BUDGET,
-            &mut sheet,
-            &mut power,
-            &mut sensitivity,
-        ),
-    )?;
-    show_three(rt, &sheet, &power, &sensitivity)
+    let d = &sheets.d;
+    let outcome = inverse(3, d, PRICE_BUDGET, &mut sheet, &mut power, &mut sensitivity);
+    rt.print("inverse")?;
+    show_outcome(rt, outcome)?;
+    show_slices(rt, &[&sheet, &power, &sensitivity])
 }
 
-// The production that a demand for domestic goods settles at.
-fn produce(rt: &impl Print, d: [u64; 9], f: [u64; 3]) -> io::Result<[u64; 3]> {
-    let mut y = [7u64; 3];
-    let mut work = [7u64; 3];
-    show_outcome(
-        rt,
-        production(3, &d, &f, PRODUCTION_BUDGET, &mut y, &mut work),
-    )?;
-    Ok(y)
-}
-
-// A production, and after bars the value added and the imports that it induces.
-fn show_induced(
-    rt: &impl Print,
-    a: &[u64],
-    m: &[u64],
-    v: &[u64],
-    fin: &[u64],
-    y: &[u64],
-) -> io::Result<()> {
-    let mut value = [7u64; 3];
-    let mut imports = [7u64; 3];
-    show_answer(rt, induced(3, a, m, v, fin, y, &mut value, &mut imports))?;
-    show_three(rt, y, &value, &imports)
-}
-
-// The production of a demand for domestic goods, and what it induces.
+// The production that a demand for domestic goods settles at, and after bars the value added and the imports that it induces.
 fn induce(
     rt: &impl Print,
-    name: &[u8],
-    a: [u64; 9],
-    v: [u64; 3],
-    m: [u64; 3],
-    d: [u64; 9],
-    fin: [u64; 3],
+    name: &str,
+    sheets: &Sheets,
+    final_demand: [u64; 3],
     f: [u64; 3],
 ) -> io::Result<()> {
-    show_word(rt, name)?;
-    let y = produce(rt, d, f)?;
-    show_induced(rt, &a, &m, &v, &fin, &y)
+    let mut y = [7u64; 3];
+    let mut work = [7u64; 3];
+    let mut value = [7u64; 3];
+    let mut imports = [7u64; 3];
+    let outcome = production(3, &sheets.d, &f, PRODUCTION_BUDGET, &mut y, &mut work);
+    let answer = induced(
+        3,
+        &sheets.a,
+        &sheets.m,
+        &sheets.v,
+        &final_demand,
+        &y,
+        &mut value,
+        &mut imports,
+    );
+    rt.print(name)?;
+    show_outcome(rt, outcome)?;
+    show_answer(rt, answer)?;
+    show_slices(rt, &[&y, &value, &imports])
 }
 
 // The same for a final demand inside the region, of which the import shares leave a part.
 fn induce_inside(
     rt: &impl Print,
-    name: &[u8],
-    a: [u64; 9],
-    v: [u64; 3],
-    m: [u64; 3],
-    d: [u64; 9],
-    fin: [u64; 3],
+    name: &str,
+    sheets: &Sheets,
+    final_demand: [u64; 3],
 ) -> io::Result<()> {
-    let f = domestic_demand(m, fin);
-    show_triple(rt, b"demand for domestic goods", f)?;
-    induce(rt, name, a, v, m, d, fin, f)
+    let f = domestic_demand(sheets.m, final_demand);
+    show_line(rt, "demand for domestic goods", &f)?;
+    induce(rt, name, sheets, final_demand, f)
 }
 
 // The demand for domestic goods behind a production.
-fn imply(rt: &impl Print, d: [u64; 9], y: [u64; 3]) -> io::Result<()> {
+fn imply(rt: &impl Print, sheets: &Sheets, y: [u64; 3]) -> io::Result<()> {
     let mut f = [7i64; 3];
-    show_word(rt, b"demand behind production")?;
-    show_answer(rt, implied_demand(3, &d, &y, &mut f))?;
-    show_first_signed(rt, &f)?;
-    show_end(rt)
+    let answer = implied_demand(3, &sheets.d, &y, &mut f);
+    rt.print("demand behind production")?;
+    show_answer(rt, answer)?;
+    show_slices(rt, &[&f])
 }
 
-// Consumption, investment and exports.
-fn demands(
-    rt: &impl Print,
-    a: [u64; 9],
-    v: [u64; 3],
-    m: [u64; 3],
-    d: [u64; 9],
-    consumption: [u64; 3],
-    investment: [u64; 3],
-    exports: [u64; 3],
-) -> io::Result<()> {
-    induce_inside(rt, b"consumption", a, v, m, d, consumption)?;
-    induce_inside(rt, b"investment", a, v, m, d, investment)?;
-    induce(rt, b"exports", a, v, m, d, [0; 3], exports)
+fn induce_all(rt: &impl Print, sheets: &Sheets, demands: &Demands) -> io::Result<()> {
+    induce_inside(rt, "consumption", sheets, demands.consumption)?;
+    induce_inside(rt, "investment", sheets, demands.investment)?;
+    induce(rt, "exports", sheets, [0; 3], demands.exports)
 }
 
-// Those of table 3-1, and its production, first in 100 million yen as printed, then the same amounts in million yen.
-fn printed_demands(
-    rt: &impl Print,
-    a: [u64; 9],
-    v: [u64; 3],
-    m: [u64; 3],
-    d: [u64; 9],
-) -> io::Result<()> {
-    demands(
-        rt,
-        a,
-        v,
-        m,
-        d,
-        [510, 5050, 27347],
-        [111, 6759, 1747],
-        [1753, 11767, 1931],
-    )?;
-    imply(rt, d, [3990, 18644, 41103])?;
-    show_word(rt, b"as printed, in million yen\n")?;
-    demands(
-        rt,
-        a,
-        v,
-        m,
-        d,
-        [51000, 505000, 2734700],
-        [11100, 675900, 174700],
-        [175300, 1176700, 193100],
-    )?;
-    imply(rt, d, [399000, 1864400, 4110300])
+// The demands of table 3-1, in 100 million yen as printed, and the same amounts in million yen.
+const PRINTED: Demands = Demands {
+    consumption: [510, 5050, 27347],
+    investment: [111, 6759, 1747],
+    exports: [1753, 11767, 1931],
+};
+
+const PRINTED_FINER: Demands = Demands {
+    consumption: [51000, 505000, 2734700],
+    investment: [11100, 675900, 174700],
+    exports: [175300, 1176700, 193100],
+};
+
+// Those, and its production.
+fn printed_demands(rt: &impl Print, sheets: &Sheets) -> io::Result<()> {
+    induce_all(rt, sheets, &PRINTED)?;
+    imply(rt, sheets, [3990, 18644, 41103])?;
+    rt.println("as printed, in million yen")?;
+    induce_all(rt, sheets, &PRINTED_FINER)?;
+    imply(rt, sheets, [399000, 1864400, 4110300])
 }
 
 // Table 3-1 as printed: a and v by production, m by domestic need, d by a and m.
@@ -229,83 +189,53 @@ fn printed_table(rt: &impl Print) -> io::Result<()> {
     let v = printed_values();
     let m = printed_imports();
     let d = domestic_sheet(m, a);
-    show_word(rt, b"as printed, in 100 million yen\n")?;
-    show_shares(rt, m, v)?;
-    show_domestic(rt, d)?;
-    invert(rt, d)?;
-    printed_demands(rt, a, v, m, d)
-}
-
-fn show_domestic(rt: &impl Print, d: [u64; 9]) -> io::Result<()> {
-    show_line(rt, b"domestic coefficients", &d)
+    let sheets = Sheets { a, v, m, d };
+    rt.println("as printed, in 100 million yen")?;
+    show_shares(rt, &sheets)?;
+    show_line(rt, "domestic coefficients", &sheets.d)?;
+    invert(rt, &sheets)?;
+    printed_demands(rt, &sheets)
 }
 
 // A table in million yen that balances: every amount rounds to the one that table 3-1 prints, and its adjustment item is 3,484.
-const FLOWS: [u64; 9] = [
-    49220, 210897, 10381, 106893, 574425, 399811, 70886, 426032, 942564,
-];
+const FINER: Table = Table {
+    sectors: 3,
+    flows: &[
+        49220, 210897, 10381, 106893, 574425, 399811, 70886, 426032, 942564,
+    ],
+    final_demand: &[62024, 1180883, 2909405],
+    exports: &[175295, 1176676, 193114],
+    imports: &[108830, 1577763, 431683],
+    value_added: &[171988, 653055, 2757562],
+    production: &[398987, 1864409, 4110318],
+    adjustment: &[0, 3484, 0],
+};
+
+const FINER_DEMANDS: Demands = Demands {
+    consumption: [50969, 504979, 2734698],
+    investment: [11055, 675904, 174707],
+    exports: [175295, 1176676, 193114],
+};
 
 fn finer_table(rt: &impl Print) -> io::Result<()> {
-    show_word(rt, b"finer table, in million yen")?;
-    finer_sheets(
-        rt,
-        &FLOWS,
-        &[62024, 1180883, 2909405],
-        &[175295, 1176676, 193114],
-        &[108830, 1577763, 431683],
-        &[171988, 653055, 2757562],
-        &[398987, 1864409, 4110318],
-        &[0, 3484, 0],
-    )
-}
-
-fn finer_sheets(
-    rt: &impl Print,
-    x: &[u64],
-    fin: &[u64],
-    e: &[u64],
-    imports: &[u64],
-    value: &[u64],
-    p: &[u64],
-    g: &[u64],
-) -> io::Result<()> {
     let mut a = [7u64; 9];
     let mut v = [7u64; 3];
     let mut m = [7u64; 3];
     let mut d = [7u64; 9];
     let mut f = [7u64; 3];
-    show_answer(
-        rt,
-        coefficients(
-            3, x, fin, e, imports, value, p, g, &mut a, &mut v, &mut m, &mut d, &mut f,
-        ),
-    )?;
-    finer_demands(rt, a, v, m, d, f)
+    let answer = coefficients(&FINER, &mut a, &mut v, &mut m, &mut d, &mut f);
+    rt.print("finer table, in million yen")?;
+    show_answer(rt, answer)?;
+    println!(rt)?;
+    finer_demands(rt, &Sheets { a, v, m, d }, f)
 }
 
-fn finer_demands(
-    rt: &impl Print,
-    a: [u64; 9],
-    v: [u64; 3],
-    m: [u64; 3],
-    d: [u64; 9],
-    f: [u64; 3],
-) -> io::Result<()> {
-    show_end(rt)?;
-    show_shares(rt, m, v)?;
-    show_triple(rt, b"demand for domestic goods", f)?;
-    invert(rt, d)?;
-    induce(rt, b"all", a, v, m, d, [62024, 1180883, 2909405], f)?;
-    demands(
-        rt,
-        a,
-        v,
-        m,
-        d,
-        [50969, 504979, 2734698],
-        [11055, 675904, 174707],
-        [175295, 1176676, 193114],
-    )
+fn finer_demands(rt: &impl Print, sheets: &Sheets, f: [u64; 3]) -> io::Result<()> {
+    show_shares(rt, sheets)?;
+    show_line(rt, "demand for domestic goods", &f)?;
+    invert(rt, sheets)?;
+    induce(rt, "all", sheets, [62024, 1180883, 2909405], f)?;
+    induce_all(rt, sheets, &FINER_DEMANDS)
 }
 
 // Document 001, part III, fifteen sectors: what of a production goes to employees.
@@ -345,29 +275,28 @@ const PRODUCTION_3: [u64; 15] = [
 ];
 
 // The pay of employees at a production, with its rates for value shares, and after a bar what of the demand is imported.
-fn pay(rt: &impl Print, name: &[u8], fin: [u64; 15], y: [u64; 15]) -> io::Result<()> {
-    show_word(rt, name)?;
-    show_pay(rt, &[0; 225], &IMPORTED, &PAY, &fin, &y)
-}
-
-fn show_pay(
-    rt: &impl Print,
-    a: &[u64],
-    m: &[u64],
-    v: &[u64],
-    fin: &[u64],
-    y: &[u64],
-) -> io::Result<()> {
+fn pay(rt: &impl Print, name: &str, final_demand: [u64; 15], y: [u64; 15]) -> io::Result<()> {
     let mut value = [7u64; 15];
     let mut imports = [7u64; 15];
-    show_answer(rt, induced(15, a, m, v, fin, y, &mut value, &mut imports))?;
-    show_slices(rt, &value, &imports)
+    let answer = induced(
+        15,
+        &[0; 225],
+        &IMPORTED,
+        &PAY,
+        &final_demand,
+        &y,
+        &mut value,
+        &mut imports,
+    );
+    rt.print(name)?;
+    show_answer(rt, answer)?;
+    show_slices(rt, &[&value, &imports])
 }
 
 fn examples(rt: &impl Print) -> io::Result<()> {
-    pay(rt, b"example 1, case 1", DEMAND_1, PRODUCTION_1)?;
-    pay(rt, b"example 2, case 1", DEMAND_2, PRODUCTION_2)?;
-    pay(rt, b"example 3", [0; 15], PRODUCTION_3)
+    pay(rt, "example 1, case 1", DEMAND_1, PRODUCTION_1)?;
+    pay(rt, "example 2, case 1", DEMAND_2, PRODUCTION_2)?;
+    pay(rt, "example 3", [0; 15], PRODUCTION_3)
 }
 
 fn main(rt: HostRuntime) -> io::Result<()> {

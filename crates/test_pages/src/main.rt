@@ -2,62 +2,30 @@
 // before its page.
 #![tactic(auto)]
 
-ghost use Rattle.std.specs.Prelude.{◌≤◌, ◌<◌, IfOk, length};
+ghost use Rattle.std.specs.Prelude.{◌<◌, IfSome, length};
 
-use program::print_page;
+use program::{print_page, read_input};
 use std::io;
-use std::io::Read;
 
-fn wide(b: u8) -> usize
-    ensures { result < 256 }
+// The first file of an input, after its length, and the input after it; none where the input ends before the file does.
+fn split_file(input: &[u8]) -> Option<(&[u8], &[u8])>
+    ensures { IfSome result (λ parts. length parts.1.now < length input.now) }
 {
-    b as usize
+    let (size, rest) = input.split_first_chunk::<2>()?;
+    rest.split_at_checked(usize::from(u16::from_be_bytes(*size)))
 }
 
-// The page of the file at an offset, and the offset after it; a file that is cut ends the input.
-fn print_case(rt: &(impl Print + Eprint), input: &[u8], at: usize) -> usize
-    requires { at < length input.now }
-    ensures { (at < result) × (result ≤ length input.now) }
-{
-    if input.len() - at < 2 {
-        return input.len();
+fn print_cases(rt: &(impl Print + Eprint), mut input: &[u8]) -> io::Result<()> {
+    while let Some((file, rest)) = split_file(input) {
+        println!(rt; "{} bytes", file.len())?;
+        print_page(rt, file);
+        input = rest;
     }
-    let size = wide(input[at]) * 256 + wide(input[at + 1]);
-    let start = at + 2;
-    if input.len() - start < size {
-        return input.len();
-    }
-    let end = start + size;
-    let _ = println!(rt; "{size} bytes");
-    print_page(rt, &input[start..end]);
-    end
-}
-
-fn print_cases(rt: &(impl Print + Eprint), input: &[u8]) {
-    let mut at = 0;
-    while at < input.len() {
-        at = print_case(rt, input, at);
-    }
-}
-
-// Reads until the buffer is full or the input ends: how many bytes came.
-fn read_full<R: Read>(reader: &mut R, buffer: &mut [u8]) -> io::Result<usize>
-    ensures { IfOk result (λ count. count ≤ length buffer.old) }
-{
-    let mut count = 0;
-    while count < buffer.len() {
-        let more = reader.read(&mut buffer[count..])?;
-        if more == 0 {
-            return Ok(count);
-        }
-        count += more;
-    }
-    Ok(count)
+    Ok(())
 }
 
 fn main(rt: HostRuntime) -> io::Result<()> {
     let mut buffer = [0u8; 65536];
-    let count = read_full(&mut rt.reader(), &mut buffer)?;
-    print_cases(&rt, &buffer[..count]);
-    Ok(())
+    let count = read_input(&mut rt.reader(), &mut buffer)?;
+    print_cases(&rt, &buffer[..count])
 }

@@ -12,6 +12,7 @@ use borrow.Author.Tests.{leb-true, eqb-true, eq-eqb}
 use lib.Dec.{eqb, leb}
 use lib.ListN.{length, get_or, set, take, drop, replicate, length-set, length-replicate, get_or-replicate, get_or-eq_default}
 use lib.Seq.{ext_get_or, get_or-set_same, get_or-set_other}
+use Rattle.std.specs.List.{list_all}
 use Rattle.model.specs.Numbers.{first, all, tabulate, cell, same}
 use Rattle.model.specs.Promises.{Equal}
 use Rattle.theory.specs.Slices.{Each, Columns}
@@ -218,6 +219,11 @@ each_equal n (x ∷ xs) e = let p = all_equal n x xs e in (p.0, each_equal n xs 
 pub equal_each : (n : ℕ) (xs : List ℕ) → Each n xs → all (eqb n) xs ≡ true
 equal_each n [] e = refl
 equal_each n (x ∷ xs) (e, es) = rw (eq-eqb n x (sym e)) (equal_each n xs es)
+
+-- std's word for a test of every element
+pub all_list : (p : ℕ → Bool) (xs : List ℕ) → list_all p xs ≡ all p xs
+all_list p [] = refl
+all_list p (x ∷ xs) = ap (λ (b : Bool). p x && b) (all_list p xs)
 
 -- by a scan: where every number of a list passes, and where one does not
 pub all_passed : (p : ℕ → Bool) (xs : List ℕ) → ((k : ℕ) → k < length xs → p (cell xs k) ≡ true) → all p xs ≡ true

@@ -9,12 +9,13 @@ use native.Mathlib.Numerals.{add-one}
 use borrow.Author.Tests.{lt-ltb, le-ltb, ltb-true, ltb-false, le-leb, leb-true, eq-eqb, ne_eqb}
 use lib.Dec.{ltb, eqb}
 use lib.ListN.{length, replicate}
+use Rattle.std.specs.Prelude.{Result, Ok, Err}
 use Rattle.model.specs.Numbers.{sum, first, all, at, transposed}
 use Rattle.model.specs.Table.{sector_limit}
 use Rattle.model.specs.Checks.{Report, Check, accepts, refuses, report, rounds_of, verdict, output, output_of, each, single, size, lengths, bounded, counted_on, column_limit}
 use Rattle.model.specs.Calls.{matrix_checks}
-use Rattle.model.specs.declared.Answer.{Answer}
-use Rattle.model.specs.declared.Answer.TheVariants.{Accepted, Refused}
+use Rattle.model.specs.Questions.{number}
+use Rattle.model.specs.declared.Refusal.{Refusal}
 use Rattle.model.specs.Promises.{AcceptedMatrix}
 use Rattle.theory.specs.Slices.{Each}
 use Rattle.theory.proofs.Lists.{All, all_none, all_more, first_here, first_none, first_before, and_true, from_one, each_equal}
@@ -208,18 +209,18 @@ unless_told (p ∷ ps) q ks =
     asked_both (λ r s. (s.number ≡ q.number → ⊥) → r ≡ s) p ps (ps ++ (q ∷ [])) ks ks (λ _ _. refl) (λ _. unless_told ps q ks)
 
 -- a call that has asked some checks and was answered a: where they refuse it is done, where they accept it goes on with the others
-module _ (ps : List Check) {a : Answer} (said : report a ≡ verdict ps []) where
-  pub answered_pass : a ≡ Accepted → AllPass ps
+module _ (ps : List Check) {a : Result Unit Refusal} (said : report a ≡ verdict ps []) where
+  pub answered_pass : {u : Unit} → a ≡ Ok u → AllPass ps
   answered_pass e = accepted_all ps [] (ap (λ (r : Report). r.accepted) (sym said ∙ ap report e))
 
-  pub answered_on : (qs : List Check) (ks : List ℕ) → a ≡ Accepted → verdict qs ks ≡ verdict (ps ++ qs) ks
+  pub answered_on : (qs : List Check) (ks : List ℕ) {u : Unit} → a ≡ Ok u → verdict qs ks ≡ verdict (ps ++ qs) ks
   answered_on qs ks e = sym (pass_on ps qs ks (answered_pass e))
 
-  pub answered_stop : (qs : List Check) (ks : List ℕ) {q p : ℕ} → a ≡ Refused q p → refuses (length ks) q p ≡ verdict (ps ++ qs) ks
+  pub answered_stop : (qs : List Check) (ks : List ℕ) {e : Refusal} → a ≡ Err e → refuses (length ks) (number e.question) e.place ≡ verdict (ps ++ qs) ks
   answered_stop qs ks e = sym (refuse_on ps qs [] ks _ _ (sym said ∙ ap report e))
 
   -- a refusal that is returned as it was answered
-  pub answered_end : (qs : List Check) {q p : ℕ} → a ≡ Refused q p → report a ≡ verdict (ps ++ qs) []
+  pub answered_end : (qs : List Check) {e : Refusal} → a ≡ Err e → report a ≡ verdict (ps ++ qs) []
   answered_end qs e = ap report e ∙ answered_stop qs [] e
 
 -- ---- checks 1 and 2: where they pass n is from 1 to 40 and the slices have their lengths, and the other way round

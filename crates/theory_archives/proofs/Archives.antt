@@ -13,7 +13,7 @@ use lib.ListN.{length, take, replicate, get_or-replicate, length-append, length-
 use lib.Seq.{take_at}
 use Rattle.model.specs.Numbers.{cell}
 use Rattle.model.specs.Table.{Table, table_of, sector_limit, sheet_limit}
-use Rattle.model.specs.Checks.{Report, accepts, output, report_read, bytes_of, table_amounts}
+use Rattle.model.specs.Checks.{Report, accepts, output, bytes_of, table_amounts}
 use Rattle.model.specs.File.{Entry, encode, encode_all, file_of, file_limit, column_kinds, Reading, reading, table_named, fits, called, answer_of}
 use Rattle.model.specs.Writer.{table_entries, written, file_bytes, writer_checks, writer_report, Ascending, InForm, returned}
 use Rattle.model.specs.CallContracts.{Slices, columns_of, reading_into, Delivered, FileRead, table_from, Archived, FileWritten}
@@ -234,7 +234,7 @@ module _ (n : ℕ) (s : Slices) (f : Fit (table_from n s)) (s₀ s' : Slices) (m
 
     pub read_accepts : r ≡ accepts (n ∷ length (table_entries (table_from n s)) ∷ [])
     read_accepts =
-        reads.answer ∙ ap (λ (o : Reading). report_read (answer_of o)) reading_into_lem
+        reads.answer ∙ ap answer_of reading_into_lem
         ∙ ap (λ (k : ℕ). accepts (n ∷ k ∷ [])) (length-reverse (table_entries (table_from n s)))
 
     pub read_returns : table_of n (take (n * n) s'.flows) (map (take n) (columns_of s')) ≡ table_from n s

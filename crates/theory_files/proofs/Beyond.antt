@@ -10,7 +10,7 @@ use lib.ListN.{get_or, set}
 use lib.Seq.{get_or-set_other}
 use Rattle.model.specs.Numbers.{cell}
 use Rattle.model.specs.Table.{sector_limit, sheet_limit}
-use Rattle.model.specs.Checks.{report_read, sectors_of}
+use Rattle.model.specs.Checks.{sectors_of}
 use Rattle.model.specs.File.{Entry, Reading, reading, fits, called, answer_of, flows_of, column_of, flows_read, column_read, column_word}
 use Rattle.model.specs.CallContracts.{Slices, columns_of, reading_into, Delivered, Beyond}
 use Rattle.theory_files.specs.Files.{input_limit}
@@ -63,7 +63,7 @@ same e z k h = ap (λ (x : List ℕ). cell x k) e ∙ z k h
 -- of a reading, by the n that it tells
 module _ (o : Reading) where
   abbrev told : ℕ
-  told = sectors_of (report_read (answer_of o))
+  told = sectors_of (answer_of o)
 
 flows_left : (len most : ℕ) (o : Reading) → Answered most o → Zero (told o * told o) (flows_read len o)
 flows_left len most (Reading.refused q p) a = λ k h. cell_zeros len k

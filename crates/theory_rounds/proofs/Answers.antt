@@ -9,14 +9,15 @@ use native.Mathlib.Nat.{le_refl, lt-suc_self}
 use borrow.Author.Tests.{le-leb, lt-leb, leb-true}
 use lib.Dec.{leb}
 use lib.ListN.{length, replicate}
+use Rattle.std.specs.Prelude.{Result, Ok, Err}
 use Rattle.model.specs.Numbers.{one, sum, cell}
 use Rattle.model.specs.Table.{sector_limit}
 use Rattle.model.specs.Rounds.{changes, settling, settled, Settles}
 use Rattle.model.specs.Checks.{Report, Check, accepts, refuses, report, rounds_of, output, verdict, size, lengths, amount_limit, induced_amounts, bounded, production_limit, production_total, single, settles}
 use Rattle.model.specs.Calls.{matrix_checks, settling_checks, settling_report, implied_checks, implied_report, induced_report}
 use Rattle.model.specs.Promises.{AcceptedMatrix}
-use Rattle.model.specs.declared.Answer.{Answer}
-use Rattle.model.specs.declared.Answer.TheVariants.{Accepted, Refused}
+use Rattle.model.specs.Questions.{number}
+use Rattle.model.specs.declared.Refusal.{Refusal}
 use Rattle.theory.specs.Slices.{Each}
 use Rattle.theory_rounds.specs.Search.{Solved, Cleared}
 use Rattle.theory.proofs.Lists.{All, equal_each}
@@ -24,8 +25,8 @@ use Rattle.theory_rounds.proofs.Settling.{counted, found, not_found}
 use Rattle.theory.proofs.Verdicts.{Passes, AllPass, accepted_all, accepted_counts, all_pass_parts, output_given, pass_on, sized, accepted_matrix, matrix_accepted, single_passed, single_failed, answered_on, answered_stop}
 
 -- ---- a call that has asked some checks and then settles, with the checks that follow: where one of the first fails, and where none does
-module _ (asked : List Check) {a : Answer} (said : report a ≡ verdict asked []) (last : List Check) {count : ℕ} {result : List ℕ} {outs works : ℕ} {r : Report} {out work : List ℕ} where
-  pub solved_stop : {number place : ℕ} → a ≡ Refused number place → Cleared number place outs works r out work
+module _ (asked : List Check) {a : Result Unit Refusal} (said : report a ≡ verdict asked []) (last : List Check) {count : ℕ} {result : List ℕ} {outs works : ℕ} {r : Report} {out work : List ℕ} where
+  pub solved_stop : {e : Refusal} → a ≡ Err e → Cleared (number e.question) e.place outs works r out work
       → Solved (asked ++ last) count result outs works r out work
   solved_stop e κ =
       record {
@@ -34,7 +35,7 @@ module _ (asked : List Check) {a : Answer} (said : report a ≡ verdict asked []
         cleared = κ.cleared;
       }
 
-  pub solved_on : {n : ℕ} → a ≡ Accepted → outs ≡ n → works ≡ n → Solved last count result n n r out work
+  pub solved_on : {n : ℕ} {u : Unit} → a ≡ Ok u → outs ≡ n → works ≡ n → Solved last count result n n r out work
       → Solved (asked ++ last) count result outs works r out work
   solved_on e o w σ =
       record {

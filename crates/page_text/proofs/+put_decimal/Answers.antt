@@ -1,43 +1,36 @@
--- `page_text::put_decimal` meets its contract: where the branches meet, the last digit is left.
-use Rattle.std.proofs.Common.{List, [], ◌∷◌, ℕ, ◌+◌, ◌/◌, ◌%◌, refl, sym, ◌∙◌, arith, add-zero}
+-- `page_text::put_decimal` meets its contract: the digits of the tenth, and then the last digit.
+use Rattle.std.proofs.Common.{[], ◌∷◌, ◌≡◌, ℕ, ◌+◌, ◌/◌, ◌%◌, ◌<◌, ◌≤◌, ap, arith, length, length-append, ◌∙◌}
 use Rattle.model.specs.Text.{decimal}
-use Rattle.theory.proofs.Stores.{Begun, begin, go_on, done, kept, room, room_first}
+use Rattle.theory.proofs.Stores.{begin, go_on, done}
 use Rattle.theory.proofs.Decimals.{decimal-one, decimal_more}
 use Rattle.page_text.proofs.+put_decimal.Goals as goal
-use Rattle.page_text.proofs.+put_decimal.Goals.{then-amount-ge10, else-amount-ge10}
 
-abbrev last : ℕ → List ℕ
-last amount = (48 + amount % 10) ∷ []
+one_long : (n : ℕ) → n < 10 → length (decimal n) ≡ 1
+one_long n h = ap length (decimal-one n h)
 
-begun :
-    (t : ℕ) (c : goal.Joined-amount-ge10 t) →
-    Begun (decimal c.args.amount) c.args.at c.args.out.now c.if-amount-ge10.out c.if-amount-ge10.next (last c.args.amount)
-begun t c =
-    let a = c.args in
-    let b = begin (decimal a.amount) a.at a.out.now in
-    elim c.if-amount-ge10.branch [
-      | then-amount-ge10 w ↦
-          go_on (decimal (a.amount / 10)) (last a.amount) (decimal_more a.amount w.if-amount-ge10.true) b
-          (w.next-is ∙ w.put_decimal-next.ensures.value, w.out-is ∙ w.put_decimal-next.ensures.out_after)
-      | else-amount-ge10 w ↦ go_on [] (last a.amount) (decimal-one a.amount w.if-amount-ge10.false) b (w.next-is ∙ sym (add-zero a.at), w.out-is)
-    ]
+more_long : (n : ℕ) → 10 ≤ n → length (decimal n) ≡ length (decimal (n / 10)) + 1
+more_long n h = ap length (decimal_more n h) ∙ length-append (decimal (n / 10)) ((48 + n % 10) ∷ [])
+
+pub put_byte-requires : goal.put_byte-requires
+put_byte-requires t c = omega (arith, one_long c.args.amount c.if-amount-lt10.true)
+
+pub returns-then-amount-lt10 : goal.returns-then-amount-lt10
+returns-then-amount-lt10 t c = record {
+  value = omega (arith, one_long c.args.amount c.if-amount-lt10.true);
+  out_after = rw (decimal-one c.args.amount c.if-amount-lt10.true) c.put_byte.ensures.out_after;
+}
 
 pub put_decimal-next-requires : goal.put_decimal-next-requires
-put_decimal-next-requires t c =
-    let a = c.args in (
-      omega arith,
-      room_first (decimal (a.amount / 10)) _ (decimal_more a.amount c.if-amount-ge10.true) c.requires (begin (decimal a.amount) a.at a.out.now),
-    )
+put_decimal-next-requires t c = (omega arith, omega (arith, more_long c.args.amount c.if-amount-lt10.false))
 
--- the last digit's place lies in the buffer
-pub bounds-out-next : goal.bounds-out-next
-bounds-out-next t c = omega (arith, room c.requires (begun t c))
+pub put_byte-requires-2 : goal.put_byte-requires-2
+put_byte-requires-2 t c = omega (arith, more_long c.args.amount c.if-amount-lt10.false)
 
-pub overflow_add-result : goal.overflow_add-result
-overflow_add-result t c = omega (arith, room c.requires (begun t c.before), kept (begun t c.before))
-
-pub returns-clause-value : goal.returns-clause-value
-returns-clause-value t c = (done (begun t c.before) (refl, refl)).0
-
-pub returns-clause-out_after : goal.returns-clause-out_after
-returns-clause-out_after t c = (done (begun t c.before) (refl, refl)).1
+pub returns : goal.returns
+returns t c =
+    let a = c.args in
+    let digits = c.put_decimal-next.ensures in
+    let last = c.put_byte-2.ensures in
+    let left = go_on (decimal (a.amount / 10)) ((48 + a.amount % 10) ∷ []) (decimal_more a.amount c.if-amount-lt10.false) (begin (decimal a.amount) a.at a.out.now) (digits.value, digits.out_after) in
+    let w = done left (last.value, last.out_after) in
+    record { value = w.0; out_after = w.1 }

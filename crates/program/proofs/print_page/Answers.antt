@@ -15,14 +15,14 @@ fits : (file : List ℕ) (k : ℕ) → accepts (k ∷ []) ≡ page_report page_l
 fits file k e = omega (arith, ap (λ (r : Report). cell r.counts 0) (e ∙ (written file).0), page-fits file)
 
 pub unreachable-requires : goal.unreachable-requires
-unreachable-requires g c = never_refused c.args.file.now _ _ (sym (ap report_page c.in-Refused.is) ∙ c.write_page-answer.ensures.answer)
+unreachable-requires g c = never_refused c.args.file.now _ _ (sym (ap report_page c.in_default.is) ∙ c.write_page.ensures.answer)
 
 pub slice_bounds-out-end : goal.slice_bounds-out-end
 slice_bounds-out-end g c =
-    let short = fits c.args.file.now c.in-Written.length (sym (ap report_page c.in-Written.is) ∙ c.write_page-answer.ensures.answer) in
-    omega (arith, short, c.write_page-answer.auto.out)
+    let short = fits c.args.file.now c.in-Ok.length (sym (ap report_page c.in-Ok.is) ∙ c.write_page.ensures.answer) in
+    omega (arith, short, c.write_page.auto.out)
 
 pub slice_bounds-print-end : goal.slice_bounds-print-end
 slice_bounds-print-end g c =
-    let short = fits c.args.file.now c.in-Written.length (sym (ap report_page c.in-Written.is) ∙ c.write_page-answer.ensures.answer) in
-    sym (length-take-le c.in-Written.length c.write_page-answer.new.out (omega (arith, short, c.write_page-answer.auto.out)))
+    let short = fits c.args.file.now c.in-Ok.length (sym (ap report_page c.in-Ok.is) ∙ c.write_page.ensures.answer) in
+    sym (length-take-le c.in-Ok.length c.write_page.new.out (omega (arith, short, c.write_page.auto.out)))

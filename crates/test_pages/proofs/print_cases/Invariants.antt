@@ -1,6 +1,6 @@
--- Each case ends after it begins, so less of the input is left.
-use Rattle.std.proofs.Common.{length, ◌-◌}
+-- Each file takes at least its length, so less of the input is left.
+use Rattle.std.proofs.Common.{length}
 use Rattle.test_pages.proofs.print_cases.Given as goal
 
-abbrev pub decreases-loop-at : goal.decreases-loop-at
-decreases-loop-at g l = length l.input - l.at
+abbrev pub decreases-loop-file : goal.decreases-loop-file
+decreases-loop-file g l = length l.input

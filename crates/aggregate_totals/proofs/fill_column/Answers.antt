@@ -1,0 +1,7 @@
+-- All cells are the totals of their groups. Assumes nothing.
+use native.Mathlib.Omega.{arith}
+use Rattle.theory.proofs.Lists.{front_done}
+use Rattle.aggregate_totals.proofs.fill_column.Goals as goal
+
+pub returns : goal.returns
+returns c = front_done c.loop-k.invariant (omega arith)

@@ -1,2 +1,0 @@
--- Laws of what the calls for C tell.
-pub mod Rows

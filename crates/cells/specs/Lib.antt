@@ -1,0 +1,2 @@
+-- What contracts say of a matrix that is lent.
+pub mod Sheets

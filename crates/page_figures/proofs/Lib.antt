@@ -1,2 +1,0 @@
--- The figures at the way out of each call.
-pub mod Stages

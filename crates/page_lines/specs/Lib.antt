@@ -1,0 +1,2 @@
+-- What contracts of the lines cite beside the definitions of `model`.
+pub mod Lent

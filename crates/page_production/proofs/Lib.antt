@@ -1,2 +1,0 @@
--- These stages at the way out of each call.
-pub mod Stages

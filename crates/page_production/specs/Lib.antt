@@ -1,2 +1,0 @@
--- What contracts of these stages cite beside the definitions of `model`.
-pub mod Stages

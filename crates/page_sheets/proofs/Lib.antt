@@ -1,2 +1,0 @@
--- The sheets on the page's way, from what `coefficients` ensures.
-pub mod Cuts

@@ -1,0 +1,2 @@
+-- What the questions of a table ask of it before they are asked.
+pub mod Slices

@@ -1,0 +1,2 @@
+-- Laws that the proofs of these functions share.
+pub mod Passed
