@@ -1,14 +1,54 @@
-// What merging sectors leaves where it is accepted: every output, one after the other.
+// What merging sectors leaves: one output, by whether the call was accepted; and where it is accepted every output, one after the other.
 #![tactic(auto)]
 
-ghost use Rattle.std.specs.Prelude.{◌≡◌, ◌*◌, ◌≤◌, length};
+ghost use Rattle.std.specs.Prelude.{true, [], ◌≡◌, ℕ, ◌*◌, ◌≤◌, length};
 ghost use Rattle.model.specs.Numbers.{cell, matrix, set_positions, tabulate};
+ghost use Rattle.model.specs.Table.{sector_limit, table_of};
 ghost use Rattle.model.specs.Lent.{table_lent};
+ghost use Rattle.model.specs.Checks.{Report, amount_limit, output};
 ghost use Rattle.model.specs.Aggregation.{merged_column, merged_flow};
 ghost use Rattle.table_balances.specs.Slices.{SlicesLent};
 
 use aggregate_totals::{fill_column, fill_flows, fill_sizes};
 use model::Table;
+
+// Of the flows: the merged ones where the call was accepted, else 0 in every cell.
+pub fn leave_flows(accepted: bool, n: usize, x: &[u64], groups: &[u64], merged: &mut [u64])
+    requires sizes { accepted ≡ true → (n ≤ sector_limit) × (length x.now ≡ n * n) × (1 ≤ length groups.now) × (length groups.now ≤ n) × (length merged.old ≡ length groups.now * length groups.now) }
+    requires amounts { accepted ≡ true → (k : ℕ) → cell x.now k ≤ amount_limit }
+    ensures { (r : Report) → r.accepted ≡ accepted → merged.new ≡ output r (length merged.old) (matrix (length groups.now) (merged_flow (table_of n x.now []) groups.now)) }
+{
+    if accepted {
+        fill_flows(n, x, groups, merged);
+    } else {
+        merged.fill(0);
+    }
+}
+
+// Of a column.
+pub fn leave_column(accepted: bool, n: usize, groups: &[u64], column: &[u64], merged: &mut [u64])
+    requires sizes { accepted ≡ true → (n ≤ sector_limit) × (length column.now ≡ n) × (length merged.old ≡ length groups.now) }
+    requires amounts { accepted ≡ true → (k : ℕ) → cell column.now k ≤ amount_limit }
+    ensures { (r : Report) → r.accepted ≡ accepted → merged.new ≡ output r (length merged.old) (merged_column (table_of n [] []) groups.now column.now) }
+{
+    if accepted {
+        fill_column(groups, column, merged);
+    } else {
+        merged.fill(0);
+    }
+}
+
+// And of the groups' sizes.
+pub fn leave_sizes(accepted: bool, groups: &[u64], sizes: &mut [u64])
+    requires { accepted ≡ true → length sizes.old ≡ length groups.now }
+    ensures { (r : Report) → r.accepted ≡ accepted → sizes.new ≡ output r (length sizes.old) (tabulate (length groups.now) (λ k. set_positions (cell groups.now k))) }
+{
+    if accepted {
+        fill_sizes(groups, sizes);
+    } else {
+        sizes.fill(0);
+    }
+}
 
 // The merged flows, each merged column, and the groups' sizes.
 pub fn fill_merged(

@@ -4,6 +4,7 @@ use Rattle.model.specs.Questions.{number as number_of}
 use Rattle.model.specs.Rounds.{row_slice}
 use Rattle.model.specs.declared.Refusal.{Refusal}
 use Rattle.model.specs.Checks.{Report}
+use Rattle.checks.specs.declared.NumberedRefusal.{NumberedRefusal}
 
 -- the number, the place and the counts of a report
 abbrev pub Told : Report → (number place : ℕ) (counts : List ℕ) → Type 0
@@ -13,6 +14,11 @@ Told r number place counts = (number ≡ r.number) × (place ≡ r.place) × (co
 abbrev pub ToldOf : {A : Type 0} → Result A Refusal → (number place : ℕ) → Option A → Type 0
 ToldOf (Ok a) number place said = (number ≡ 0) × (place ≡ 0) × (said ≡ Some a)
 ToldOf (Err e) number place said = (number ≡ number_of e.question) × (place ≡ e.place) × (said ≡ None)
+
+-- the same of an answer whose refusal has a number, which need be no question's
+abbrev pub ToldBy : {A : Type 0} → Result A NumberedRefusal → (number place : ℕ) → Option A → Type 0
+ToldBy (Ok a) number place said = (number ≡ 0) × (place ≡ 0) × (said ≡ Some a)
+ToldBy (Err e) number place said = (number ≡ e.number) × (place ≡ e.place) × (said ≡ None)
 
 -- a sector's row: how many cells it has, where in the sheet it starts, 0 if there is none, and that those cells of the sheet are the row
 pub record ToldRow (n : ℕ) (d : List ℕ) (sector start count : ℕ) : Type 0 where

@@ -1,4 +1,4 @@
-// Leaves over lent slices: what a call leaves in an output, columns of a matrix, and a matrix that is lent.
+// Leaves over lent slices: what a call leaves in an output, a copy, columns of a matrix, and a matrix that is lent.
 #![tactic(auto)]
 
 ghost use Rattle.std.specs.Prelude.{◌≡◌, ℕ, ◌*◌, ◌<◌, length};
@@ -15,6 +15,16 @@ pub fn output(accepted: bool, s: &mut [u64])
 {
     if !accepted {
         s.fill(0);
+    }
+}
+
+// Copies src, cell by cell: std's copy would have the archives for C ask for one more function of the C library.
+pub fn copy_cells(src: &[u64], dst: &mut [u64])
+    requires { length dst.old ≡ length src.now }
+    ensures { dst.new ≡ src.now }
+{
+    for (i, &cell) in src.iter().enumerate() {
+        dst[i] = cell;
     }
 }
 

@@ -2,13 +2,14 @@
 // its refusal, by the first failing place, or that it passes.
 #![tactic(auto)]
 
-ghost use Rattle.std.specs.Prelude.{[], ◌∷◌, ◌≡◌, ◌↔◌, ℕ, Bool, ◌+◌, ◌*◌, ◌^◌, ◌<◌, IsOk, IsTrue, eqb, leb, length, map, sum_by};
+ghost use Rattle.std.specs.Prelude.{List, [], ◌∷◌, ◌++◌, ◌≡◌, ◌↔◌, ℕ, Bool, ◌+◌, ◌*◌, ◌^◌, ◌<◌, IsOk, IsTrue, eqb, leb, length, map, sum_by};
 ghost use Rattle.model.specs.Numbers.{all, at, column_sum, one};
 ghost use Rattle.model.specs.Table.{few_sectors};
 ghost use Rattle.model.specs.Questions.{number};
-ghost use Rattle.model.specs.Checks.{amount_limit, report, verdict, bounded, counted_on, single, size, lengths, column_limit, column_sums, production_total};
+ghost use Rattle.model.specs.Checks.{Check, amount_limit, report, verdict, bounded, counted_on, single, size, lengths, column_limit, column_sums, production_total};
 ghost use Rattle.model.specs.Calls.{matrix_checks};
 ghost use Rattle.theory.specs.Slices.{Each};
+ghost use Rattle.checks.specs.Numbered.{Named, report_first, report_numbered};
 
 use model::{AMOUNT_LIMIT, COLUMN_LIMIT, ONE, PRODUCTION_LIMIT, Question, Refusal, SECTORS};
 
@@ -18,6 +19,40 @@ pub fn ask(question: Question, passes: bool) -> Result<(), Refusal>
     ensures passed { IsOk result ↔ IsTrue passes }
 {
     if passes { Ok(()) } else { Err(question.at(0)) }
+}
+
+// A refusal by a number, which need be no question's: as C is told it.
+#[derive(Clone, Copy)]
+pub struct NumberedRefusal {
+    pub number: u8,
+    pub place: usize,
+}
+
+// A refusal by its question's number.
+impl From<Refusal> for NumberedRefusal {
+    ghost from_gives = { λ refusal numbered. Named refusal numbered };
+
+    fn from(refusal: Refusal) -> NumberedRefusal {
+        NumberedRefusal {
+            number: u8::from(refusal.question),
+            place: refusal.place,
+        }
+    }
+}
+
+// The first place that fails a test, counted from the offset on: place i is offset + i.
+fn first_failing<F: Fn(usize) -> bool>(offset: usize, places: usize, passes: F) -> Option<usize>
+    requires fits { offset + places < 2 ^ 64 }
+    requires asked { (i : ℕ) → i < places → F.pre passes i }
+    ensures { (q : ℕ) (p : ℕ → Bool) → ((i : ℕ) (b : Bool) → i < places → F.post passes i b → b ≡ p i)
+        → report_first q result ≡ verdict (record { number = q; offset = offset; places = places; passes = p } ∷ []) [] }
+{
+    for i in 0..places {
+        if !passes(i) {
+            return Some(offset + i);
+        }
+    }
+    None
 }
 
 // Asks a question place by place. Place i is told as offset + i.
@@ -32,12 +67,10 @@ pub fn ask_each<F: Fn(usize) -> bool>(
     ensures { (p : ℕ → Bool) → ((i : ℕ) (b : Bool) → i < places → F.post passes i b → b ≡ p i)
         → report result ≡ verdict (record { number = number question; offset = offset; places = places; passes = p } ∷ []) [] }
 {
-    for i in 0..places {
-        if !passes(i) {
-            return Err(question.at(offset + i));
-        }
+    match first_failing(offset, places, passes) {
+        None => Ok(()),
+        Some(place) => Err(question.at(place)),
     }
-    Ok(())
 }
 
 // Question 1: is n from 1 to 40?
@@ -65,8 +98,33 @@ pub fn check_sizes(n: usize, matrices: &[usize], lent: &[usize]) -> Result<(), R
     )
 }
 
-// Is every cell of a slice within the limit? Cell i of the slice is at place offset + i.
-fn cells_within(question: Question, offset: usize, limit: u64, s: &[u64]) -> Result<(), Refusal>
+// Is every cell of a slice within the limit? The check's number is given. Cell i of the slice is at place offset + i.
+pub fn cells_within(number: u8, offset: usize, limit: u64, s: &[u64]) -> Result<(), NumberedRefusal>
+    requires { offset + length s.now < 2 ^ 64 }
+    ensures { report_numbered result ≡ verdict (bounded number offset limit s.now ∷ []) [] }
+{
+    match first_failing(offset, s.len(), |i| s[i] <= limit) {
+        None => Ok(()),
+        Some(place) => Err(NumberedRefusal { number, place }),
+    }
+}
+
+// Question 3 of one slice more, after checks that were answered `so_far`.
+pub fn next_within(
+    so_far: Result<(), NumberedRefusal>,
+    offset: usize,
+    limit: u64,
+    s: &[u64],
+) -> Result<(), NumberedRefusal>
+    requires { offset + length s.now < 2 ^ 64 }
+    ensures { (ps : List Check) → report_numbered so_far ≡ verdict ps [] → report_numbered result ≡ verdict (ps ++ (bounded 3 offset limit s.now ∷ [])) [] }
+{
+    so_far?;
+    cells_within(3, offset, limit, s)
+}
+
+// The same as a question.
+fn slice_within(question: Question, offset: usize, limit: u64, s: &[u64]) -> Result<(), Refusal>
     requires { offset + length s.now < 2 ^ 64 }
     ensures { report result ≡ verdict (bounded (number question) offset limit s.now ∷ []) [] }
 {
@@ -96,7 +154,7 @@ pub fn matrix_within(n: usize, x: &[u64], limit: u64) -> Result<(), Refusal>
 pub fn starts_within(limit: u64, start: &[u64]) -> Result<(), Refusal>
     ensures { report result ≡ verdict (bounded 8 0 limit start.now ∷ []) [] }
 {
-    cells_within(Question::Demands, 0, limit, start)
+    slice_within(Question::Demands, 0, limit, start)
 }
 
 // A slice and the limit of its cells.
@@ -134,7 +192,7 @@ pub fn parts_within(first: usize, parts: &[Part]) -> Result<(), Refusal>
 {
     let mut offset = first;
     for part in parts {
-        cells_within(Question::Amounts, offset, part.limit, part.cells)?;
+        slice_within(Question::Amounts, offset, part.limit, part.cells)?;
         offset += part.cells.len();
     }
     Ok(())

@@ -1,17 +1,32 @@
 -- The bytes of a record, and of the cells of a word from a position on. Assumes nothing.
 use mathlib.Core.Bool.{cond}
 use mathlib.Core.List.{List, [], ◌∷◌, ◌++◌}
-use mathlib.Core.Path.{◌≡◌, refl, ap, ◌∙◌}
-use Prim.Native.Nat.{ℕ, ◌+◌, ◌-◌, ◌≤◌, ◌<◌}
+use mathlib.Core.Path.{◌≡◌, refl, sym, ap, ◌∙◌}
+use Prim.Native.Nat.{ℕ, suc, ◌+◌, ◌-◌, ◌≤◌, ◌<◌}
+use native.Mathlib.Nat.{add-zero, add-suc, suc-add}
+use native.Mathlib.Omega.{arith}
 use borrow.Author.Tests.{lt-ltb, le-ltb, eq-eqb, ne_eqb}
 use lib.Dec.{eqb}
-use lib.ListN.{length, drop}
+use lib.ListN.{length, set, drop}
+use lib.Seq.{sets, set_comm}
 use Rattle.model.specs.Numbers.{cell}
 use Rattle.model.specs.Table.{sector_limit}
 use Rattle.model.specs.File.{Entry, amount_bytes, column_kinds, encode, encode_all}
 use Rattle.model.specs.Writer.{word_entries}
 use Rattle.theory.proofs.Stores.{drop-first}
 use Rattle.theory_files.proofs.Encoding.{made, encode_flow, encode_column}
+
+-- a text whose end was written first
+late : (x : ℕ) (b l : List ℕ) (i k : ℕ) → i < k → set (sets l k b) i x ≡ sets (set l i x) k b
+late x [] l i k h = refl
+late x (y ∷ b) l i k h = late x b (set l k y) i (suc k) (omega arith) ∙ ap (λ (m : List ℕ). sets m (suc k) b) (set_comm l k i y x (λ e. omega (arith, e)))
+
+pub sets_back : (a b l : List ℕ) (i : ℕ) → sets (sets l (i + length a) b) i a ≡ sets l i (a ++ b)
+sets_back [] b l i = ap (λ (k : ℕ). sets l k b) (add-zero i)
+sets_back (x ∷ a) b l i =
+    ap (λ (m : List ℕ). sets m (suc i) a) (late x b l i (i + length (x ∷ a)) (omega arith))
+    ∙ ap (λ (k : ℕ). sets (sets (set l i x) k b) (suc i) a) (add-suc i (length a) ∙ sym (suc-add i (length a)))
+    ∙ sets_back a b (set l i x) (suc i)
 
 -- a record begins with its kind and its sectors, and ends with its amount
 module _ (word position amount : ℕ) where

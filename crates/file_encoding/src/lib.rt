@@ -35,7 +35,7 @@ fn put_amount(amount: u64, at: usize, file: &mut [u8]) -> usize
     put_bytes(&(amount as u32).to_be_bytes(), at, file)
 }
 
-// The record of a cell, by its word and its position.
+// The record of a cell, by its word and its position. The amount is stored first: then the compiler joins its four bytes into one store.
 fn put_record(word: usize, position: usize, amount: u64, at: usize, file: &mut [u8]) -> usize
     requires entry { (word < word_limit) × (position < sector_limit) × (amount ≤ amount_limit) }
     requires room { at + length (encode (record { word = word; position = position; amount = amount })) ≤ length file.old }
@@ -43,12 +43,15 @@ fn put_record(word: usize, position: usize, amount: u64, at: usize, file: &mut [
     ensures file_after { file.new ≡ sets file.old at (encode (record { word = word; position = position; amount = amount })) }
 {
     let sector = (position + 1) as u8;
-    let next = if word < SECTORS {
-        put_bytes(&[Kind::Flow as u8, (word + 1) as u8, sector], at, file)
+    if word < SECTORS {
+        let next = put_amount(amount, at + 3, file);
+        put_bytes(&[Kind::Flow as u8, (word + 1) as u8, sector], at, file);
+        next
     } else {
-        put_bytes(&[COLUMN_KINDS[word - SECTORS], sector], at, file)
-    };
-    put_amount(amount, next, file)
+        let next = put_amount(amount, at + 2, file);
+        put_bytes(&[COLUMN_KINDS[word - SECTORS], sector], at, file);
+        next
+    }
 }
 
 // The cells of a word, a row of x or a column, zeros left out.

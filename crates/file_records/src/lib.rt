@@ -129,6 +129,19 @@ fn amount_from(s: &[u8], k: usize) -> u64
     u64::from(u32::from_be_bytes([s[k], s[k + 1], s[k + 2], s[k + 3]]))
 }
 
+// The amount of a record that names a cell: its last four bytes, whatever the kind and the sector bytes.
+#[tactic(auto, unfolding(model::specs::File::entry_at, model::specs::File::amount_from))]
+pub fn amount_at(s: &[u8], at: usize) -> u64
+    requires { Body s.now at }
+    ensures { (result ≡ (entry_at s.now at).amount) × (result < 2 ^ 32) }
+{
+    if s[at] == Kind::Flow as u8 {
+        amount_from(s, at + 3)
+    } else {
+        amount_from(s, at + 2)
+    }
+}
+
 // Question 13, and the step at a record of this kind. Its amount is its last four bytes.
 #[tactic(auto, unfolding(model::specs::File::inside_at, model::specs::File::entry_at, model::specs::File::amount_from), using(std::proofs::lemmas::Bool::Decides::nat_tests))]
 pub fn step_at(s: &[u8], at: usize, kind: Kind, n: usize) -> Result<Step, Refusal>

@@ -8,6 +8,7 @@ use cells::Matrix;
 use impact_checks::check_impact;
 use impact_rounds::compare;
 use model::Refusal;
+use production::clear;
 
 // The rise of each sector's production from the demand `before` to the demand `after`. What it promises is `Compared`.
 pub fn impact(
@@ -21,8 +22,7 @@ pub fn impact(
 ) -> Result<u32, Refusal>
     ensures { Compared n d.now before.now after.now budget out.old work.old (report_rounds result) out.new work.new }
 {
-    out.fill(0);
-    work.fill(0);
+    clear(out, work);
     check_impact(n, d, before, after, out.len(), work.len())?;
     let matrix = Matrix {
         sectors: n,

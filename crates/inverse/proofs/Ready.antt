@@ -1,17 +1,18 @@
 -- The Leontief inverse has small cells, and its first is not 0, so that its ratios stay within 64 bits. Assumes nothing.
-use mathlib.Core.Bool.{Bool, cond}
+use mathlib.Core.Bool.{Bool, true, false, cond}
 use mathlib.Core.List.{List, [], ◌∷◌}
 use mathlib.Core.Path.{◌≡◌, refl, sym, ap, subst⁻¹, ◌∙◌}
 use Prim.Native.Nat.{ℕ, ◌*◌, ◌≤◌, ◌<◌}
 use native.Mathlib.Omega.{arith}
 use borrow.Author.Tests.{eq-eqb}
 use lib.ListN.{length}
-use Rattle.model.specs.Numbers.{one, sum, cell, at}
+use Rattle.model.specs.Numbers.{one, sum, cell, at, oriented}
 use Rattle.model.specs.Rounds.{settling, settled, unit, inverse}
 use Rattle.model.specs.Checks.{Report, accepts}
 use Rattle.model.specs.Calls.{inverse_report}
 use Rattle.model.specs.Promises.{AcceptedMatrix}
 use Rattle.inverse_ratios.specs.Columns.{inverse_cell_limit, Dispersed}
+use Rattle.inverse_ratios.proofs.Dispersion.{turned}
 use Rattle.inverse_columns.proofs.Leontief.{inverse-cell, length-inverse, accepted_inverse}
 use Rattle.theory.proofs.Sums.{sum_most, sum-cell}
 use Rattle.theory_rounds.proofs.Gauge.{total_gauge}
@@ -41,17 +42,26 @@ module _ {n : ℕ} {d : List ℕ} (A : AcceptedMatrix n d) (budget : ℕ) where
         unit-cell n j j h ∙ ap (λ (b : Bool). cond b one 0) (eq-eqb j j refl),
       )
 
+  dispersed : Dispersed n (at n (inverse n d budget))
+  dispersed =
+      record {
+        some = A.some;
+        few = A.few;
+        small = λ i j h l. rw (inverse-cell n d budget i j h l) (settled_small i j h);
+        positive = rw (inverse-cell n d budget 0 0 A.some A.some) (settled_positive 0 A.some);
+      }
+
+  -- in either direction
+  inverse_dispersed : (t : Bool) → Dispersed n (oriented t (at n (inverse n d budget)))
+  inverse_dispersed true = turned dispersed
+  inverse_dispersed false = dispersed
+
   -- a sheet that has it is ready for its ratios
-  pub inverse_ready : {sheet : List ℕ} → sheet ≡ inverse n d budget → (length sheet ≡ n * n) × Dispersed n (at n sheet)
+  pub inverse_ready : {sheet : List ℕ} → sheet ≡ inverse n d budget
+      → (length sheet ≡ n * n) × ((t : Bool) → Dispersed n (oriented t (at n sheet)))
   inverse_ready e = (
     ap length e ∙ length-inverse n d budget,
-    subst⁻¹ (λ (s : List ℕ). Dispersed n (at n s)) e
-        (record {
-          some = A.some;
-          few = A.few;
-          small = λ i j h l. rw (inverse-cell n d budget i j h l) (settled_small i j h);
-          positive = rw (inverse-cell n d budget 0 0 A.some A.some) (settled_positive 0 A.some);
-        }),
+    λ t. subst⁻¹ (λ (s : List ℕ). Dispersed n (oriented t (at n s))) e (inverse_dispersed t),
   )
 
 -- so is that of an accepted call, and the slices of the ratios have their lengths
@@ -67,4 +77,4 @@ pub accepted_ready : (n : ℕ) (d : List ℕ) (budget : ℕ) (matrices : List �
 accepted_ready n d budget matrices powers sensitivities e made =
     let a = accepted_inverse n d budget matrices (powers ∷ sensitivities ∷ []) (ap (λ (r : Report). r.accepted) (sym e)) in
     let r = inverse_ready a.0 budget made in
-    record { cells = r.0; dispersed = r.1; power = a.1.0; sensitivity = a.1.1.0 }
+    record { cells = r.0; dispersed = r.1 false; power = a.1.0; sensitivity = a.1.1.0 }

@@ -1,13 +1,52 @@
-// What rearranging a table leaves where it is accepted: every output, one after the other.
+// What rearranging a table leaves: one output, by whether the call was accepted; and where it is accepted every output, one after the other.
 #![tactic(auto)]
 
-ghost use Rattle.std.specs.Prelude.{◌≡◌, ℕ, ◌*◌, ◌<◌, ◌≤◌, length};
+ghost use Rattle.std.specs.Prelude.{true, ◌≡◌, ℕ, ◌*◌, ◌<◌, ◌≤◌, length};
 ghost use Rattle.model.specs.Numbers.{cell};
 ghost use Rattle.model.specs.Table.{sector_limit};
+ghost use Rattle.model.specs.Checks.{Report, output};
 ghost use Rattle.model.specs.Permutation.{inverse_list, permuted_column, permuted_sheet};
 
 use model::Table;
 use permute_cells::{fill_column, fill_flows, fill_inverse};
+
+// Of the flows: those in the new order where the call was accepted, else 0 in every cell.
+pub fn leave_flows(accepted: bool, n: usize, order: &[u64], x: &[u64], permuted: &mut [u64])
+    requires sizes { accepted ≡ true → (1 ≤ n) × (n ≤ sector_limit) × (length order.now ≡ n) × (length x.now ≡ n * n) × (length permuted.old ≡ n * n) }
+    requires in_sheet { accepted ≡ true → (k : ℕ) → k < n → cell order.now k < n }
+    ensures { (r : Report) → r.accepted ≡ accepted → permuted.new ≡ output r (length permuted.old) (permuted_sheet n order.now x.now) }
+{
+    if accepted {
+        fill_flows(n, order, x, permuted);
+    } else {
+        permuted.fill(0);
+    }
+}
+
+// Of a column.
+pub fn leave_column(accepted: bool, n: usize, order: &[u64], column: &[u64], permuted: &mut [u64])
+    requires sizes { accepted ≡ true → (length order.now ≡ n) × (length column.now ≡ n) × (length permuted.old ≡ n) }
+    requires in_column { accepted ≡ true → (k : ℕ) → k < n → cell order.now k < n }
+    ensures { (r : Report) → r.accepted ≡ accepted → permuted.new ≡ output r (length permuted.old) (permuted_column n order.now column.now) }
+{
+    if accepted {
+        fill_column(n, order, column, permuted);
+    } else {
+        permuted.fill(0);
+    }
+}
+
+// And of the inverse list.
+pub fn leave_inverse(accepted: bool, n: usize, order: &[u64], inverse: &mut [u64])
+    requires { accepted ≡ true → (length order.now ≡ n) × (length inverse.old ≡ n) }
+    ensures { (r : Report) → r.accepted ≡ accepted → inverse.new ≡ output r (length inverse.old) (inverse_list n order.now) }
+{
+    if accepted {
+        fill_inverse(n, order, inverse);
+    } else {
+        inverse.fill(0);
+    }
+}
 
 // The flows and each column in the new order, and the inverse list.
 pub fn fill_permuted(

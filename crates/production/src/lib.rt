@@ -1,19 +1,29 @@
 // Production from demand, and prices from direct rises.
 #![tactic(auto)]
 
-ghost use Rattle.std.specs.Prelude.{◌≡◌, ℕ, ◌<◌, ◌≤◌, length};
+ghost use Rattle.std.specs.Prelude.{◌≡◌, ℕ, ◌<◌, ◌≤◌, length, replicate};
 ghost use Rattle.model.specs.Numbers.{cell, transposed};
 ghost use Rattle.model.specs.Checks.{report_rounds, demand_limit};
 ghost use Rattle.model.specs.Promises.{AcceptedMatrix};
 ghost use Rattle.model.specs.CallContracts.{Priced, Produced};
-ghost use Rattle.theory_rounds.specs.Search.{Settlement};
+ghost use Rattle.theory_rounds.specs.Search.{Cleared, Settlement};
 ghost use Rattle.cells.specs.Sheets.{sheet_of};
+ghost use Rattle.checks.specs.Numbered.{rounds_numbered};
 ghost use Rattle.production.specs.Solving.{Checked};
 
 use cells::Matrix;
-use checks::{check_domestic, starts_within};
+use checks::{NumberedRefusal, check_domestic, starts_within};
 use model::{DEMAND_LIMIT, RISE_LIMIT, Refusal, SHEET};
 use settle_loop::settle;
+
+// Sets outputs and work cells to 0, as a refusal leaves them.
+pub fn clear(out: &mut [u64], work: &mut [u64])
+    ensures outputs { out.new ≡ replicate (length out.old) 0 }
+    ensures cleared { work.new ≡ replicate (length work.old) 0 }
+{
+    out.fill(0);
+    work.fill(0);
+}
 
 // Sets outputs and work cells to 0, and asks questions 1, 2, 7 and 8 of a start and its limit.
 fn check_start(
@@ -26,10 +36,22 @@ fn check_start(
 ) -> Result<(), Refusal>
     ensures { Checked n d.now limit start.now (length out.old) (length work.old) result out.new work.new }
 {
-    out.fill(0);
-    work.fill(0);
+    clear(out, work);
     check_domestic(n, d, &[start.len(), out.len(), work.len()])?;
     starts_within(limit, start)
+}
+
+// A refusal by a number, with 0 in every output and work cell.
+pub fn refuse(
+    number: u8,
+    place: usize,
+    out: &mut [u64],
+    work: &mut [u64],
+) -> Result<u32, NumberedRefusal>
+    ensures { Cleared number place (length out.old) (length work.old) (rounds_numbered result) out.new work.new }
+{
+    clear(out, work);
+    Err(NumberedRefusal { number, place })
 }
 
 // Settles down the columns of d: along the rows of a copy with rows and columns exchanged.

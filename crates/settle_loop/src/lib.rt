@@ -7,7 +7,7 @@ ghost use Rattle.theory_rounds.specs.Search.{Searched, Settleable, Settlement};
 ghost use Rattle.cells.specs.Sheets.{sheet_of};
 ghost use Rattle.settle_sums.specs.Sums.{Carried};
 
-use cells::Matrix;
+use cells::{Matrix, copy_cells};
 use model::{Question, Refusal};
 use settle_round::turn;
 use settle_sums::{NARROW, SUMS};
@@ -51,7 +51,7 @@ fn run_rows(
     ensures { Searched d.now.sectors (sheet_of d.now) start.now budget (report_rounds result) out.new }
 {
     let mut sums = [0u64; SUMS];
-    work.copy_from_slice(start);
+    copy_cells(start, work);
     run_turns(d, start, budget, out, work, &mut sums)
 }
 
@@ -67,7 +67,7 @@ pub fn settle(
     requires sizes { (length out.old ≡ d.now.sectors) × (length work.old ≡ d.now.sectors) }
     ensures { Settlement d.now.sectors (sheet_of d.now) start.now budget (report_rounds result) out.new work.new }
 {
-    out.copy_from_slice(start);
+    copy_cells(start, out);
     let outcome = run_rows(d, start, budget, out, work);
     work.fill(0);
     if outcome.is_err() {

@@ -5,4 +5,4 @@ use Rattle.settle_loop.proofs.run_rows.Goals as goal
 pub run_turns-requires-clause-carried : goal.run_turns-requires-clause-carried
 run_turns-requires-clause-carried c =
     let a = c.args in
-    rw (c.copy_from_slice.ensures.after, c.requires.begun.0) (carried_start a.d.now a.start.now c.requires.settleable.few)
+    rw (c.copy_cells.ensures, c.requires.begun.0) (carried_start a.d.now a.start.now c.requires.settleable.few)

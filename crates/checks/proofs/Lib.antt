@@ -1,0 +1,2 @@
+-- Laws of answers whose refusal has any number.
+pub mod Numbered

@@ -1,0 +1,2 @@
+-- Laws of the kinds of records.
+pub mod RecordLaws
