@@ -6,7 +6,7 @@ ghost use Rattle.std.specs.Prelude.{[], ◌∷◌};
 ghost use Rattle.model.specs.Checks.{report_told};
 ghost use Rattle.model.specs.CallContracts.{Compared, Priced, Produced};
 
-use c_answers::tell_outcome;
+use c_answers::tell_rounds;
 use impact::impact;
 use production::{price, production};
 
@@ -27,7 +27,7 @@ pub extern "C" fn tawqeshim_production(
     ensures { Produced n d.now f.now budget out.old work.old (report_told number.new place.new (rounds.new ∷ [])) out.new work.new }
 {
     let outcome = production(n, d, f, budget, out, work);
-    tell_outcome(outcome, number, place, rounds);
+    tell_rounds(outcome, number, place, rounds);
 }
 
 // Price rises from direct rises. Asks 1, 2, 7, 8, 9.
@@ -47,7 +47,7 @@ pub extern "C" fn tawqeshim_price(
     ensures { Priced n d.now w.now budget out.old work.old (report_told number.new place.new (rounds.new ∷ [])) out.new work.new }
 {
     let outcome = price(n, d, w, budget, out, work);
-    tell_outcome(outcome, number, place, rounds);
+    tell_rounds(outcome, number, place, rounds);
 }
 
 // What a scheme adds: the rise of production from a demand to another. Asks 1, 2, 7, 8, 17, 9.
@@ -68,5 +68,5 @@ pub extern "C" fn tawqeshim_impact(
     ensures { Compared n d.now before.now after.now budget out.old work.old (report_told number.new place.new (rounds.new ∷ [])) out.new work.new }
 {
     let outcome = impact(n, d, before, after, budget, out, work);
-    tell_outcome(outcome, number, place, rounds);
+    tell_rounds(outcome, number, place, rounds);
 }

@@ -7,7 +7,7 @@ ghost use Rattle.model.specs.Checks.{report_told};
 ghost use Rattle.model.specs.CallContracts.{Demanded, Implied, Induced, Inverted};
 ghost use Rattle.c_answers.specs.Told.{ToldRow};
 
-use c_answers::{tell, tell_outcome};
+use c_answers::{tell, tell_rounds};
 use domestic_demand::domestic_demand;
 use implied::implied_demand;
 use induced::induced;
@@ -87,7 +87,7 @@ pub extern "C" fn tawqeshim_inverse(
     ensures { Inverted n d.now budget sheet.old power.old sensitivity.old (report_told number.new place.new (rounds.new ∷ [])) sheet.new power.new sensitivity.new }
 {
     let outcome = inverse(n, d, budget, sheet, power, sensitivity);
-    tell_outcome(outcome, number, place, rounds);
+    tell_rounds(outcome, number, place, rounds);
 }
 
 // A sector's row of a sheet: the cell that it starts at, and how many cells it has; 0 and 0 where `row` gives none.
