@@ -16,7 +16,8 @@ use file_encoding::put_word;
 use file_records::Kind;
 use model::{COLUMNS, SECTORS, Table};
 
-// The rows of x.
+// The rows of x. Not inlined, nor are the columns: the loop over a row then keeps its places in registers.
+#[inline(never)]
 fn put_rows(n: usize, x: &[u64], at: usize, file: &mut [u8]) -> usize
     requires sizes { (n ≤ sector_limit) × (length x.now ≡ n * n) }
     requires amounts { (k : ℕ) → cell x.now k ≤ amount_limit }
@@ -33,6 +34,7 @@ fn put_rows(n: usize, x: &[u64], at: usize, file: &mut [u8]) -> usize
 }
 
 // The columns, in the order of their kinds.
+#[inline(never)]
 fn put_columns(columns: &[&[u64]; COLUMNS], at: usize, file: &mut [u8]) -> usize
     requires columns { (c : ℕ) → c < length column_kinds
         → (length (get_or (map (λ s. s.now) columns.now) c []) ≤ sector_limit) × ((k : ℕ) → cell (get_or (map (λ s. s.now) columns.now) c []) k ≤ amount_limit) }
