@@ -17,14 +17,14 @@ abbrev pub ToldOf : {A : Type 0} → Result A Refusal → (number place : ℕ) �
 ToldOf (Ok a) number place said = (number ≡ 0) × (place ≡ 0) × (said ≡ Some a)
 ToldOf (Err e) number place said = (number ≡ number_of e.question) × (place ≡ e.place) × (said ≡ None)
 
--- what an answer of the reader says, with n and how many cells were named, where its refusal has a number, which need be no question's
-abbrev pub read_numbered : Result TableRead NumberedRefusal → Report
-read_numbered = numbered_of 2 (λ t. t.sectors ∷ t.named ∷ [])
-
--- what is told of an answer whose refusal has a number, which need be no question's
+-- the same of an answer whose refusal has a number, which need be no question's
 abbrev pub ToldBy : {A : Type 0} → Result A NumberedRefusal → (number place : ℕ) → Option A → Type 0
 ToldBy (Ok a) number place said = (number ≡ 0) × (place ≡ 0) × (said ≡ Some a)
 ToldBy (Err e) number place said = (number ≡ e.number) × (place ≡ e.place) × (said ≡ None)
+
+-- what such an answer of the reader says, with n and how many cells were named
+abbrev pub read_numbered : Result TableRead NumberedRefusal → Report
+read_numbered = numbered_of 2 (λ t. t.sectors ∷ t.named ∷ [])
 
 -- a sector's row: how many cells it has, where in the sheet it starts, 0 if there is none, and that those cells of the sheet are the row
 pub record ToldRow (n : ℕ) (d : List ℕ) (sector start count : ℕ) : Type 0 where

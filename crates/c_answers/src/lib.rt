@@ -105,5 +105,5 @@ pub fn tell_page(
 )
     ensures { Told (rounds_numbered answer) number.new place.new (length.new ∷ []) }
 {
-    *length = tell_numbered(answer, number, place).unwrap_or(0);
+    tell_written(answer, number, place, length);
 }
